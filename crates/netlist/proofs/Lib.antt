@@ -1,0 +1,11 @@
+pub mod Letters
+pub mod Sections
+pub mod Sound
+pub mod Joined
+pub mod Kept
+pub mod Filled
+pub mod Laid
+pub mod Said
+pub mod Exact
+pub mod Settled
+pub mod First

@@ -1,0 +1,10 @@
+pub mod Limits
+pub mod Refusals
+pub mod Layout
+pub mod Faults
+pub mod Laws
+pub mod Splits
+pub mod Scans
+pub mod Reads
+pub mod Gathers
+pub mod Holds

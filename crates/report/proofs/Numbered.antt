@@ -1,0 +1,38 @@
+-- One line more.
+use Prim.Native.Nat.{ℕ, suc, _+_, _-_, _<_}
+use native.Mathlib.Nat.{add-suc, add-zero}
+use native.Mathlib.Omega.{arith}
+use mathlib.Core.List.{List, [], _∷_, _++_, append-assoc, append-nil, map}
+use mathlib.Core.Path.{_≡_, refl, sym, _∙_, ap}
+use lib.ListN.{length, getD, take}
+use Rattle.std.proofs.shelf.Lists.{length-take, take-more}
+use Rattle.report.specs.Lines.{numbered}
+
+pub numbered-push : {A : Type 0} (line : ℕ → A → List ℕ) (k : ℕ) (xs : List A) (x : A) → numbered line k (xs ++ x ∷ []) ≡ numbered line k xs ++ line (k + length xs) x
+numbered-push line k [] x = rw (add-zero, append-nil) refl
+numbered-push line k (y ∷ xs) x =
+    let e : suc k + length xs ≡ k + suc (length xs) = omega arith in
+    rw (numbered-push line (suc k) xs x, append-assoc, e) refl
+
+pub numbered-more : {A : Type 0} (line : ℕ → A → List ℕ) (xs : List A) (i : ℕ) (x : A) → i < length xs → x ≡ getD xs i x → numbered line 1 (take (i + 1) xs) ≡ numbered line 1 (take i xs) ++ line (i + 1) x
+numbered-more line xs i x h e =
+    let long : 1 + length (take i xs) ≡ i + 1 = omega (arith, length-take i xs) in
+    rw (take-more xs i x h, ← e, numbered-push line 1 (take i xs) x, long) refl
+
+pub numbered-map : {A B : Type 0} (f : A → B) (line : ℕ → B → List ℕ) (k : ℕ) (xs : List A) → numbered (λ k x. line k (f x)) k xs ≡ numbered line k (map f xs)
+numbered-map f line k [] = refl
+numbered-map f line k (x ∷ xs) = rw (numbered-map f line (suc k) xs) refl
+
+-- a line pushed onto a text of the lines before it
+pub lines-more : {A : Type 0} (line : ℕ → A → List ℕ) (xs : List A) (i : ℕ) (x : A) (first old pushed new : List ℕ) → i < length xs → x ≡ getD xs i x
+    → old ≡ first ++ numbered line 1 (take i xs) → pushed ≡ line (i + 1) x → new ≡ old ++ pushed → new ≡ first ++ numbered line 1 (take (i + 1) xs)
+lines-more line xs i x first old pushed new h e o p n = rw (n, o, p, numbered-more line xs i x h e) (append-assoc first (numbered line 1 (take i xs)) (line (i + 1) x))
+
+-- lines that agree at every number that is used
+pub numbered-same : {A : Type 0} (line other : ℕ → A → List ℕ) (k : ℕ) (xs : List A) → ((i : ℕ) (x : A) → i < length xs → line (k + i) x ≡ other (k + i) x) → numbered line k xs ≡ numbered other k xs
+numbered-same line other k [] h = refl
+numbered-same line other k (x ∷ xs) h =
+    let here : line k x ≡ other k x = rw add-zero at (h 0 x (omega arith)) in
+    let there : numbered line (suc k) xs ≡ numbered other (suc k) xs =
+        numbered-same line other (suc k) xs (λ i y l. let e : k + suc i ≡ suc k + i = omega arith in rw e at (h (suc i) y (omega arith))) in
+    rw (here, there) refl

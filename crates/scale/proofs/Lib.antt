@@ -1,0 +1,5 @@
+pub mod Choices
+pub mod Once
+pub mod Standing
+pub mod Order
+pub mod Meanings
