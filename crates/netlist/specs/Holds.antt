@@ -1,15 +1,16 @@
 -- What a netlist and a sizing hold, and what the whole reading leaves in them. Assumes nothing.
-use Prim.Native.Nat.{ℕ, _<_, _≤_}
+use Prim.Native.Nat.{ℕ, _-_, _<_, _≤_}
 use mathlib.Core.Bool.{cond}
 use mathlib.Core.List.{List, [], _∷_, map}
 use mathlib.Core.Path.{_≡_}
 use lib.Dec.{leb}
 use lib.ListN.{getD, length}
 use Rattle.std.specs.Of.String.{string-bytes}
-use Rattle.std.specs.Of.Vec.{vec-items}
+use Rattle.std.specs.Of.Vec.{vec-items, vec-len}
 use Rattle.std.specs.declared.result.Result.{Result}
 use Rattle.std.specs.declared.result.Result.the-variants.{Ok, Err}
 use Rattle.netlist.specs.declared.channel.Channel.{Channel}
+use Rattle.netlist.specs.declared.kind.Kind.{Kind}
 use Rattle.netlist.specs.declared.kind.Kind.the-variants.{Block}
 use Rattle.netlist.specs.declared.netlist.Module.{Module}
 use Rattle.netlist.specs.declared.netlist.Netlist.{Netlist}
@@ -28,6 +29,20 @@ modules-of n = map entry-of (vec-items (n .modules))
 
 abbrev pub channels-of : Netlist → List Channel
 channels-of n = vec-items (n .channels)
+
+-- how many modules, and how many channels
+abbrev pub modules : Netlist → ℕ
+modules n = vec-len (n .modules)
+
+abbrev pub channels : Netlist → ℕ
+channels n = vec-len (n .channels)
+
+-- the kind of module v, and channel e, both numbered from 1
+abbrev pub kind-of : Netlist → ℕ → Kind
+kind-of n v = getD (modules-of n) (v - 1) (record { kind = Block; name = [] }) .kind
+
+abbrev pub channel : Netlist → ℕ → Channel
+channel n e = getD (channels-of n) (e - 1) (record { source = 0; sink = 0 })
 
 -- one block named A (65), without channels
 pub record Fresh (n : Netlist) : Type 0 where

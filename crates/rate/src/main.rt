@@ -1,15 +1,15 @@
-//! Reads a netlist file from standard input, and prints what it holds or why it is refused.
-use report::describe;
+//! Reads a netlist file from standard input, and prints its rating under its own sizing, or why it is refused.
 use report::fill;
+use report::rate_text;
 use std::error::AnyError;
 
-// No netlist file is longer.
+// More than any netlist file has: the longest is 1,734 bytes.
 const LONGEST: usize = 2048;
 
 fn run(rt: &LibcRuntime) -> Result<(), AnyError> {
     let mut buffer = [0; LONGEST];
     let length = fill(&mut rt.stdin(), &mut buffer)?;
-    let text = describe(rt.alloc(), &buffer[0..length])?;
+    let text = rate_text(rt.alloc(), &buffer[0..length])?;
     print!(rt, "{text}")?;
     Ok(())
 }

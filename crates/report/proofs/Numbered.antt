@@ -6,7 +6,11 @@ use mathlib.Core.List.{List, [], _∷_, _++_, append-assoc, append-nil, map}
 use mathlib.Core.Path.{_≡_, refl, sym, _∙_, ap}
 use lib.ListN.{length, getD, take}
 use Rattle.std.proofs.shelf.Lists.{length-take, take-more}
-use Rattle.report.specs.Lines.{numbered}
+use lib.Chars.{codes}
+use lib.IntN.{ℤ}
+use Rattle.netlist.specs.declared.netlist.Module.{Module}
+use Rattle.netlist.specs.Holds.{entry-of}
+use Rattle.report.specs.Lines.{module-line, numbered, rate-line, rating-lines, spaced}
 
 pub numbered-push : {A : Type 0} (line : ℕ → A → List ℕ) (k : ℕ) (xs : List A) (x : A) → numbered line k (xs ++ x ∷ []) ≡ numbered line k xs ++ line (k + length xs) x
 numbered-push line k [] x = rw (add-zero, append-nil) refl
@@ -28,11 +32,13 @@ pub lines-more : {A : Type 0} (line : ℕ → A → List ℕ) (xs : List A) (i :
     → old ≡ first ++ numbered line 1 (take i xs) → pushed ≡ line (i + 1) x → new ≡ old ++ pushed → new ≡ first ++ numbered line 1 (take (i + 1) xs)
 lines-more line xs i x first old pushed new h e o p n = rw (n, o, p, numbered-more line xs i x h e) (append-assoc first (numbered line 1 (take i xs)) (line (i + 1) x))
 
--- lines that agree at every number that is used
-pub numbered-same : {A : Type 0} (line other : ℕ → A → List ℕ) (k : ℕ) (xs : List A) → ((i : ℕ) (x : A) → i < length xs → line (k + i) x ≡ other (k + i) x) → numbered line k xs ≡ numbered other k xs
-numbered-same line other k [] h = refl
-numbered-same line other k (x ∷ xs) h =
-    let here : line k x ≡ other k x = rw add-zero at (h 0 x (omega arith)) in
-    let there : numbered line (suc k) xs ≡ numbered other (suc k) xs =
-        numbered-same line other (suc k) xs (λ i y l. let e : k + suc i ≡ suc k + i = omega arith in rw e at (h (suc i) y (omega arith))) in
-    rw (here, there) refl
+five : (v w x y z : List ℕ) → ((((v ++ w) ++ x) ++ y) ++ z) ≡ v ++ ((w ++ (x ++ y)) ++ z)
+five v w x y z = simp append-assoc
+
+-- the lines of a rating, one text after another
+pub rating-joined : (p l : ℕ) (places : List ℕ) (ms : List Module) (zs : List ℤ) (a b d e f : List ℕ)
+    → a ≡ rate-line p l → b ≡ a ++ codes "places" → d ≡ b ++ numbered spaced 1 places → e ≡ d ++ codes "\n"
+    → f ≡ e ++ numbered (λ k m. module-line zs k (entry-of m)) 1 ms → f ≡ rating-lines p l places (map entry-of ms) zs
+rating-joined p l places ms zs a b d e f first second third fourth last =
+    rw (last, fourth, third, second, first, numbered-map entry-of (module-line zs) 1 ms)
+    (five (rate-line p l) (codes "places") (numbered spaced 1 places) (codes "\n") (numbered (module-line zs) 1 (map entry-of ms)))

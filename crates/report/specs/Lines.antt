@@ -2,44 +2,41 @@
 use Prim.Native.Nat.{ℕ, suc, _-_}
 use mathlib.Core.List.{List, [], _∷_, _++_}
 use lib.Chars.{codes}
+use lib.IntN.{ℤ, pos}
 use lib.ListN.{getD}
-use Rattle.std.specs.Written.{decimal}
-use Rattle.std.specs.declared.result.Result.{Result}
-use Rattle.std.specs.declared.result.Result.the-variants.{Ok, Err}
-use Rattle.netlist.specs.declared.channel.Channel.{Channel}
-use Rattle.netlist.specs.declared.kind.Kind.{Kind}
-use Rattle.netlist.specs.declared.kind.Kind.the-variants.{Block, RelayStation}
+use Rattle.std.specs.Written.{decimal, signed}
 use Rattle.netlist.specs.declared.refusal.Refusal.{Refusal}
-use Rattle.netlist.specs.Faults.{verdict}
-use Rattle.netlist.specs.Layout.{Contents, Entry}
+use Rattle.netlist.specs.Layout.{Entry}
 use Rattle.netlist.specs.Refusals.{refusal-line}
 
--- a line for each element of a list, numbered from k on
+-- a text for each element of a list, numbered from k on, one after the other
 abbrev pub numbered : {A : Type 0} → (ℕ → A → List ℕ) → ℕ → List A → List ℕ
-numbered line k [] = []
-numbered line k (x ∷ xs) = line k x ++ numbered line (suc k) xs
+numbered text k [] = []
+numbered text k (x ∷ xs) = text k x ++ numbered text (suc k) xs
 
-abbrev pub kind-word : Kind → List ℕ
-kind-word Block = codes "block"
-kind-word RelayStation = codes "relay"
+-- as `rate 2/3`
+abbrev pub rate-line : ℕ → ℕ → List ℕ
+rate-line p l = codes "rate " ++ (decimal p ++ (codes "/" ++ (decimal l ++ codes "\n")))
 
--- as `module 3 relay rs`
-abbrev pub module-line : ℕ → Entry → List ℕ
-module-line k m = codes "module " ++ (decimal k ++ (codes " " ++ (kind-word (m .kind) ++ (codes " " ++ (m .name ++ codes "\n")))))
+-- as `places 1 3 6`, or `places` alone
+abbrev pub spaced : ℕ → ℕ → List ℕ
+spaced k p = codes " " ++ decimal p
 
--- as `channel 1 from 1 to 3 queue 1`
-abbrev pub channel-line : (ℕ → ℕ) → ℕ → Channel → List ℕ
-channel-line size k c =
-    codes "channel " ++ (decimal k ++ (codes " from " ++ (decimal (c .source) ++ (codes " to " ++ (decimal (c .sink) ++ (codes " queue " ++ (decimal (size k) ++ codes "\n")))))))
+abbrev pub places-line : List ℕ → List ℕ
+places-line ps = codes "places" ++ (numbered spaced 1 ps ++ codes "\n")
 
--- the lines of what a file holds; the queue of a channel is 1 where the file gives none
-abbrev pub contents-lines : Contents → List ℕ
-contents-lines c = numbered module-line 1 (c .modules) ++ numbered (channel-line (λ k. getD (c .sizes) (k - 1) 1)) 1 (c .channels)
+-- as `module 3 rs 0`: number, name and potential
+abbrev pub line-of : ℤ → ℕ → Entry → List ℕ
+line-of z k m = codes "module " ++ (decimal k ++ (codes " " ++ (m .name ++ (codes " " ++ (signed z ++ codes "\n")))))
 
--- the lines of a file: what it holds, or its refusal alone
-abbrev pub lines-of : Result Contents Refusal → List ℕ
-lines-of (Ok c) = contents-lines c
-lines-of (Err x) = refusal-line x ++ codes "\n"
+-- the potential of module k is the entry k - 1 of a list
+abbrev pub module-line : List ℤ → ℕ → Entry → List ℕ
+module-line potentials k m = line-of (getD potentials (k - 1) (pos 0)) k m
 
-abbrev pub description : List ℕ → List ℕ
-description file = lines-of (verdict file)
+-- the lines of a rating: the rate, the cycle's places and the modules
+abbrev pub rating-lines : ℕ → ℕ → List ℕ → List Entry → List ℤ → List ℕ
+rating-lines p l places ms potentials = rate-line p l ++ (places-line places ++ numbered (module-line potentials) 1 ms)
+
+-- a refusal's line
+abbrev pub refused : Refusal → List ℕ
+refused x = refusal-line x ++ codes "\n"

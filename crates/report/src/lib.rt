@@ -1,7 +1,7 @@
 //! The text that the programs print, made of a file's bytes so that it can be tested.
-mod description;
 mod input;
 mod lines;
+mod texts;
 
-pub use description::describe;
 pub use input::fill;
+pub use texts::rate_text;

@@ -1,0 +1,5 @@
+pub mod Cuts
+pub mod Spreads
+pub mod Held
+pub mod Fills
+pub mod Passes

@@ -1,0 +1,4 @@
+pub mod Nets
+pub mod Faults
+pub mod Verdicts
+pub mod Links

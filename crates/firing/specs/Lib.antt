@@ -1,0 +1,3 @@
+pub mod Firings
+pub mod Theorems
+pub mod Ring

@@ -1,0 +1,12 @@
+pub mod Walks
+pub mod Writes
+pub mod Depths
+pub mod Relaxing
+pub mod Falls
+pub mod Back
+pub mod Closing
+pub mod Pigeons
+pub mod Settling
+pub mod Fractions
+pub mod Rating
+pub mod Shortening

@@ -1,0 +1,3 @@
+pub mod Extended
+pub mod Sizings
+pub mod Ratings
