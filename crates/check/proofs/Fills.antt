@@ -3,7 +3,7 @@ use Prim.Native.Nat.{ℕ, _+_, _-_, _*_, _/_, _%_, _<_, _≤_}
 use mathlib.Core.Bool.{Bool, true, false}
 use mathlib.Core.List.{List, [], _∷_}
 use mathlib.Core.Logic.{_⊎_, _≢_, ⊎-elim}
-use mathlib.Core.Path.{_≡_, refl, sym, ap, subst, _∙_}
+use mathlib.Core.Path.{_≡_, sym, ap, subst, _∙_}
 use borrow.Author.Count.{below-more}
 use native.Mathlib.Omega.{arith}
 use lib.Dec.{eqb}
@@ -11,7 +11,7 @@ use lib.ListN.{getD, length, replicate, set, take}
 use Rattle.std.proofs.shelf.Bits.{div-below, div-mul-add, mod-below, mod-mul-add, mul-add-lt, mul-le}
 use Rattle.std.proofs.shelf.Lists.{getD-replicate, getD-set-other, getD-set-same, length-replicate, length-set, take-all}
 use Rattle.std.proofs.shelf.Sums.{countBy-more-no, countBy-more-yes}
-use Rattle.std.proofs.shelf.Tests.{cases-eq, cases-lt, eq-eqb, false≢true, ne-eqb}
+use Rattle.std.proofs.shelf.Tests.{cases-eq, eq-eqb, false≢true, ne-eqb}
 use Rattle.std.specs.Of.Vec.{vec-items}
 use Rattle.std.specs.Orderings.{Decides}
 use Rattle.std.specs.Text.{In}

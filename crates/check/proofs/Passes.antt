@@ -23,7 +23,7 @@ use Rattle.check.specs.Nets.{Hops, Joined, Joins, Leads, Origin, Relay, Way, i
 use Rattle.check.specs.Verdicts.{Passed}
 use Rattle.check.specs.declared.link.Link.the-variants.{EitherWay, Relays}
 use Rattle.check.proofs.Cuts.{cut, few, leads-append, leads-back}
-use Rattle.check.proofs.Held.{sink-in, source-in, step-in}
+use Rattle.check.proofs.Held.{source-in, step-in}
 
 module _ {X : Type 0} (p : X → Bool) where
   counted-cons : (x : X) (xs : List X) → countBy p (x ∷ xs) ≡ cond (p x) 1 0 + countBy p xs

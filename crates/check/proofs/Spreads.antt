@@ -10,7 +10,7 @@ use Rattle.std.proofs.shelf.Tests.{and-parts}
 use Rattle.std.specs.Orderings.{Decides}
 use Rattle.std.specs.Text.{In}
 use Rattle.std.specs.shelf.Lists.{All}
-use Rattle.scale.specs.Counts.{counts, element, onward, weight}
+use Rattle.scale.specs.Counts.{counts, onward, weight}
 use Rattle.scale.specs.Walks.{Walk}
 use Rattle.scale.specs.YesNo.{SomeWalk, yes-no}
 use Rattle.check.specs.Links.{Reached, Table}

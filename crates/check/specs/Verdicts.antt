@@ -5,12 +5,11 @@ use mathlib.Core.Logic.{_⊎_}
 use mathlib.Core.Path.{_≡_}
 use lib.ListN.{length}
 use Rattle.std.specs.Text.{In}
-use Rattle.netlist.specs.declared.kind.Kind.the-variants.{Block}
 use Rattle.netlist.specs.declared.netlist.Netlist.{Netlist}
 use Rattle.netlist.specs.declared.refusal.Cause.the-variants.{NotJoined, RelayEnds, RelayRing}
 use Rattle.netlist.specs.declared.refusal.Refusal.{Refusal}
 use Rattle.check.specs.Faults.{Apart, Loose, Lowest, Nobody, Ringed}
-use Rattle.netlist.specs.Holds.{channels, kind-of, modules}
+use Rattle.netlist.specs.Holds.{channels, modules}
 use Rattle.check.specs.Nets.{Origin, Relay, Way, inputs, outputs}
 
 -- no module has a fault

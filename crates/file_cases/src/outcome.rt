@@ -29,7 +29,10 @@ fn summary(heap: Global, netlist: &Netlist, sizing: &[u8]) -> Result<String, All
     let name = module.name.as_str();
     let channels = netlist.channels().len();
     let last = last_channel(heap, netlist, sizing)?;
-    format!(heap, "{modules} modules to {kind} {name}, {channels} channels to {last}")
+    format!(
+        heap,
+        "{modules} modules to {kind} {name}, {channels} channels to {last}"
+    )
 }
 
 fn last_channel(heap: Global, netlist: &Netlist, sizing: &[u8]) -> Result<String, AllocError> {

@@ -1,18 +1,16 @@
 -- The netlist and the sizing that are filled.
-use Prim.Native.Nat.{ℕ, zero, suc, _+_, _-_, _<_, _≤_}
-use mathlib.Core.List.{List, [], _∷_, _++_, map}
+use Prim.Native.Nat.{ℕ, _+_, _-_, _<_, _≤_}
+use mathlib.Core.List.{List, map}
 use mathlib.Core.Logic.{_≢_}
-use mathlib.Core.Path.{_≡_, refl, sym, _∙_, ap, subst}
+use mathlib.Core.Path.{_≡_, refl, _∙_, ap}
 use native.Mathlib.Omega.{arith}
 use borrow.Author.Count.{below-more}
 use borrow.Author.Tests.{le-leb}
 use lib.ListN.{length, getD, set}
 use lib.Seq.{getD-set-same, getD-set-other}
 use Rattle.std.proofs.shelf.Lists.{length-map}
-use Rattle.std.specs.declared.option.Option.{Option}
-use Rattle.std.specs.declared.option.Option.the-variants.{Some, None}
 use Rattle.std.specs.declared.result.Result.{Result}
-use Rattle.std.specs.declared.result.Result.the-variants.{Ok, Err}
+use Rattle.std.specs.declared.result.Result.the-variants.{Ok}
 use Rattle.netlist.specs.declared.netlist.Module.{Module}
 use Rattle.netlist.specs.declared.channel.Channel.{Channel}
 use Rattle.netlist.specs.Faults.{verdict}
@@ -26,11 +24,12 @@ use Rattle.netlist.proofs.Kept.{Kept}
 pub put-more : (at v : ℕ) (first now sizes : List ℕ) → at < length now → v ≡ getD sizes at 1
     → ((k : ℕ) → k < at → getD now k 0 ≡ getD sizes k 1) × ((k : ℕ) → at ≤ k → getD now k 0 ≡ getD first k 0)
     → ((k : ℕ) → k < at + 1 → getD (set now at v) k 0 ≡ getD sizes k 1) × ((k : ℕ) → at + 1 ≤ k → getD (set now at v) k 0 ≡ getD first k 0)
-put-more at v first now sizes room e h =
-    (below-more (λ (k : ℕ). getD (set now at v) k 0 ≡ getD sizes k 1) at
-     (λ k l. let ne : k ≢ at = omega arith in rw getD-set-other (h .0 k l))
-     (rw getD-set-same e),
-     λ k l. let ne : k ≢ at = omega arith in rw getD-set-other (h .1 k (omega arith)))
+put-more at v first now sizes room e h = (
+  below-more (λ (k : ℕ). getD (set now at v) k 0 ≡ getD sizes k 1) at
+      (λ k l. let ne : k ≢ at = omega arith in rw getD-set-other (h .0 k l))
+      (rw getD-set-same e),
+  λ k l. let ne : k ≢ at = omega arith in rw getD-set-other (h .1 k (omega arith)),
+)
 
 pub kept-netlist : (n : ℕ) (ms : List Module) (cs : List Channel) → n ≡ length ms → Kept (length (map entry-of ms)) cs → Kept n cs
 kept-netlist n ms cs e k = rw e (rw length-map at k)

@@ -1,17 +1,17 @@
 -- What was gathered, and what is coming.
-use Prim.Native.Nat.{ℕ, zero, suc, _+_, _-_, _<_, _≤_}
+use Prim.Native.Nat.{ℕ, _+_, _-_, _<_, _≤_}
 use mathlib.Core.List.{List, [], _∷_, _++_, append-assoc, append-nil, map}
-use mathlib.Core.Path.{_≡_, refl, sym, _∙_, ap, subst}
+use mathlib.Core.Path.{_≡_, refl, subst}
 use lib.ListN.{length, length-append}
 use native.Mathlib.Omega.{arith}
 use Rattle.std.specs.declared.option.Option.{Option}
-use Rattle.std.specs.declared.option.Option.the-variants.{Some, None}
+use Rattle.std.specs.declared.option.Option.the-variants.{Some}
 use Rattle.std.specs.declared.result.Result.{Result}
 use Rattle.std.specs.declared.result.Result.the-variants.{Ok, Err}
 use Rattle.netlist.specs.declared.record.Record.{Record}
 use Rattle.netlist.specs.Faults.{before, join, nothing, verdict}
 use Rattle.netlist.specs.declared.refusal.Refusal.{Refusal}
-use Rattle.netlist.specs.Layout.{Contents, Entry}
+use Rattle.netlist.specs.Layout.{Contents}
 use Rattle.netlist.specs.Holds.{entry-of}
 use Rattle.netlist.specs.Scans.{Next, Shorter, held}
 use denote.Ref.{now, RefT}
@@ -26,20 +26,11 @@ pub before-before : {E : Type 0} (a b : Contents) (x : Result Contents E) → be
 before-before a b (Ok c) = simp append-assoc
 before-before a b (Err e) = refl
 
-pub join-nothing : (a : Contents) → join a nothing ≡ a
-join-nothing a = simp append-nil
-
 -- One more record.
 pub gathers-more : {E : Type 0} (file : Result Contents E) (a b : Contents) (r : Record) (was is : Result Contents E) → file ≡ before a was → was ≡ before (held r) is → b ≡ join a (held r) → file ≡ before b is
 gathers-more file a b r was is f w j = rw (f, w, j) (before-before a (held r) is)
 
--- No more records.
-pub gathers-all : {E : Type 0} (file : Result Contents E) (a : Contents) (was : Result Contents E) → file ≡ before a was → was ≡ Ok nothing → file ≡ Ok a
-gathers-all file a was f w = rw (f, w) (ap (λ (c : Contents). Ok c) (join-nothing a))
-
-pub gathers-flaw : {E : Type 0} (file : Result Contents E) (a : Contents) (was : Result Contents E) (e : E) → file ≡ before a was → was ≡ Err e → file ≡ Err e
-gathers-flaw file a was e f w = rw (f, w) refl
-
+-- No record yet.
 pub gathers-none : {E : Type 0} (x : Result Contents E) → x ≡ before nothing x
 gathers-none (Ok c) = refl
 gathers-none (Err e) = refl
@@ -48,7 +39,7 @@ gathers-none (Err e) = refl
 pub added-module : (new old : List Module) (m : Module) (cs : List Channel) (ss : List ℕ) (r : Record) (kind : Kind) (text : RefT (List ℕ))
     → r ≡ AModule kind text → new ≡ old ++ (m ∷ []) → m .kind ≡ kind → string-bytes (m .name .text) ≡ now text
     → _≡_ {A = Contents} (record { modules = map entry-of new; channels = cs; sizes = ss })
-        (join (record { modules = map entry-of old; channels = cs; sizes = ss }) (held r))
+    (join (record { modules = map entry-of old; channels = cs; sizes = ss }) (held r))
 added-module new old m cs ss r kind text is e k t = rw (is, e, ← k, ← t) (simp (map-append, append-nil))
 
 -- What a call of `next` promised, where it gave a record.
@@ -67,11 +58,14 @@ pub counted-more : (file : List ℕ) (was is : Result Contents Refusal) (rest le
     → Counted file was rest e → o ≡ Some r → Next was (Ok o) is → Shorter {E = Refusal} rest (Ok o) less
     → length (held r .channels) ≤ 1 → n ≡ e + length (held r .channels) → Counted file is less n
 counted-more file was is rest less e n o r h s next shorter one sum =
-    let g = h .1 .0 in
-    (omega (arith, h .0, shorter-some o r rest less s shorter),
-     (join g (held r),
-      gathers-more (verdict file) g (join g (held r)) r was is (h .1 .1) (next-some o r was is s next) refl,
-      simp length-append (omega (arith, h .1 .2))))
+    let g = h .1 .0 in (
+      omega (arith, h .0, shorter-some o r rest less s shorter),
+      (
+        join g (held r),
+        gathers-more (verdict file) g (join g (held r)) r was is (h .1 .1) (next-some o r was is s next) refl,
+        simp length-append (omega (arith, h .1 .2)),
+      ),
+    )
 
 pub one-channel-held : (r : Record) (c : Channel) → r ≡ AChannel c → length (held r .channels) ≡ 1
 one-channel-held r c is = rw is refl

@@ -1,7 +1,7 @@
 -- What a netlist that is read keeps.
-use Prim.Native.Nat.{ℕ, _<_, _≤_}
+use Prim.Native.Nat.{ℕ, _≤_}
 use mathlib.Core.List.{List}
-use lib.ListN.{length, getD}
+use lib.ListN.{length}
 use Rattle.std.proofs.shelf.Elements.{all-getD}
 use Rattle.std.specs.Text.{In}
 use Rattle.netlist.specs.declared.channel.Channel.{Channel}
@@ -21,5 +21,5 @@ valid-kept c v =
       some = v .some;
       few = v .few;
       sources = λ k d l. all-getD (λ (e : Channel). In 1 n (e .source) × In 1 n (e .sink)) (c .channels) k d l (v .ends) .0;
-      sinks = λ k d l. all-getD (λ (e : Channel). In 1 n (e .source) × In 1 n (e .sink)) (c .channels) k d l (v .ends) .1
+      sinks = λ k d l. all-getD (λ (e : Channel). In 1 n (e .source) × In 1 n (e .sink)) (c .channels) k d l (v .ends) .1;
     }

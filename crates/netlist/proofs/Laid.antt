@@ -1,22 +1,20 @@
 -- What is laid out is read back.
-use Prim.Native.Nat.{ℕ, zero, suc, _+_, _*_, _/_, _%_, _<_, _≤_}
+use Prim.Native.Nat.{ℕ, suc, _+_, _*_, _/_, _%_, _≤_}
 use mathlib.Core.List.{List, [], _∷_, _++_, append-assoc}
-use mathlib.Core.Bool.{Bool, true, false, _||_}
-use mathlib.Core.Logic.{_⊎_, inl, inr}
-use mathlib.Core.Path.{_≡_, refl, sym, _∙_, ap}
+use mathlib.Core.Bool.{Bool, true, _||_}
+use mathlib.Core.Logic.{_⊎_}
+use mathlib.Core.Path.{_≡_, refl}
 use native.Mathlib.Omega.{arith}
 use lib.Dec.{eqb}
-use lib.ListN.{length, getD}
+use lib.ListN.{length}
 use Rattle.std.proofs.shelf.Ways.{tells}
 use Rattle.std.specs.Text.{In, within}
 use Rattle.std.specs.shelf.Lists.{All}
-use Rattle.std.specs.declared.result.Result.{Result}
-use Rattle.std.specs.declared.result.Result.the-variants.{Ok, Err}
-use Rattle.netlist.specs.declared.flaw.Flaw.{Flaw}
+use Rattle.std.specs.declared.result.Result.the-variants.{Ok}
 use Rattle.netlist.specs.declared.channel.Channel.{Channel}
 use Rattle.netlist.specs.declared.kind.Kind.{Kind}
 use Rattle.netlist.specs.declared.kind.Kind.the-variants.{Block, RelayStation}
-use Rattle.netlist.specs.Faults.{byte, channel, channels, contents, count, entry, kind-of, modules, name, sizes}
+use Rattle.netlist.specs.Faults.{channels, contents, count, entry, kind-of, modules, name, sizes}
 use Rattle.netlist.specs.Layout.{Contents, Entry, Valid, channel-bytes, kind-byte, layout, module-bytes, two}
 use Rattle.netlist.specs.Limits.{Named, Shown}
 use Rattle.netlist.proofs.Letters.{within-true}
@@ -80,4 +78,4 @@ pub reads-back : (c : Contents) → Valid c → contents (layout c) ≡ Ok c
 reads-back c v =
     rw (count-laid (within 1 64) (length (c .modules)) (module-bytes (c .modules) ++ (two (length (c .channels)) ++ (channel-bytes (c .channels) ++ (two (length (c .sizes)) ++ c .sizes)))) (within-true 1 64 (length (c .modules)) (v .some)))
     (modules-laid (length (c .modules)) (c .modules) (c .channels) (c .sizes) (two (length (c .channels)) ++ (channel-bytes (c .channels) ++ (two (length (c .sizes)) ++ c .sizes))) (v .named)
-     (middle-laid (length (c .modules)) (c .channels) (c .sizes) (v .few) (v .ends) (v .sized) (v .sizes)))
+    (middle-laid (length (c .modules)) (c .channels) (c .sizes) (v .few) (v .ends) (v .sized) (v .sizes)))

@@ -1,9 +1,8 @@
 -- A name is read byte by byte.
 use Prim.Native.Nat.{ℕ, zero, suc, _+_, _-_, _*_, _<_, _≤_}
 use mathlib.Core.List.{List, [], _∷_}
-use mathlib.Core.Path.{_≡_, refl, sym, _∙_, ap}
+use mathlib.Core.Path.{_≡_, refl}
 use mathlib.Core.Bool.{Bool, true, false}
-use mathlib.Core.Logic.{_⊎_, inl, inr}
 use lib.ListN.{length, getD, take, drop}
 use native.Mathlib.Omega.{arith}
 use native.Mathlib.Numerals.{unary-clauses}
@@ -12,11 +11,9 @@ use Rattle.std.proofs.shelf.Ascii.{ascii-from-all}
 use Rattle.std.proofs.shelf.Text.{utf8-from-ascii}
 use Rattle.std.specs.Text.{In, Out, Utf8, within}
 use Rattle.std.specs.shelf.Lists.{All}
-use Rattle.std.specs.declared.result.Result.{Result}
 use Rattle.std.specs.declared.result.Result.the-variants.{Ok, Err}
-use Rattle.netlist.specs.declared.flaw.Flaw.{Flaw}
 use Rattle.netlist.specs.declared.refusal.Cause.the-variants.{EndsEarly, ValueOutOfRange}
-use Rattle.netlist.specs.Faults.{Reading, byte, count, flaw, name}
+use Rattle.netlist.specs.Faults.{byte, count, flaw, name}
 
 pub within-true : (lo hi b : ℕ) → In lo hi b → within lo hi b ≡ true
 within-true lo hi b h = grind (arith, tells)

@@ -1,12 +1,12 @@
 -- What a file that is read without a flaw holds is valid, and the file is its layout.
-use Prim.Native.Nat.{ℕ, zero, suc, _+_, _-_, _*_, _/_, _%_, _<_, _≤_}
+use Prim.Native.Nat.{ℕ, zero, suc, _+_, _-_, _*_, _/_, _%_, _≤_}
 use mathlib.Core.List.{List, [], _∷_, _++_, append-assoc}
-use mathlib.Core.Logic.{_⊎_, inl, inr}
-use mathlib.Core.Path.{_≡_, refl, sym, _∙_, ap}
-use mathlib.Core.Bool.{Bool, true, false, cond, _||_}
+use mathlib.Core.Logic.{_⊎_}
+use mathlib.Core.Path.{_≡_, refl, _∙_, ap}
+use mathlib.Core.Bool.{Bool, true, _||_}
 use native.Mathlib.Omega.{arith}
 use lib.Dec.{eqb}
-use lib.ListN.{length, getD}
+use lib.ListN.{length}
 use Rattle.std.proofs.shelf.Ways.{tells}
 use Rattle.std.specs.Text.{In, within}
 use Rattle.std.specs.shelf.Lists.{All}
@@ -14,7 +14,6 @@ use Rattle.std.specs.declared.result.Result.{Result}
 use Rattle.std.specs.declared.result.Result.the-variants.{Ok, Err}
 use Rattle.netlist.specs.declared.flaw.Flaw.{Flaw}
 use Rattle.netlist.specs.declared.channel.Channel.{Channel}
-use Rattle.netlist.specs.declared.kind.Kind.{Kind}
 use Rattle.netlist.specs.Faults.{one-channel, one-module, one-size, before, byte, channel, channels, contents, count, entry, join, kind-of, modules, name, nothing, sizes}
 use Rattle.netlist.specs.Layout.{Contents, Entry, Says, channel-bytes, kind-byte, layout, module-bytes, two}
 use Rattle.netlist.specs.Limits.{Named}
@@ -95,7 +94,7 @@ channels-none n e v bytes rest c l h k s =
       ends = rw (s .channels) tt;
       sized = rw (s .long) (sized-by v e h);
       each = s .each;
-      laid = rw (s .channels, s .long) (counted-laid bytes v rest (sized-few v e l (sized-by v e h)) k ∙ ap (λ (y : List ℕ). two v ++ y) (s .laid))
+      laid = rw (s .channels, s .long) (counted-laid bytes v rest (sized-few v e l (sized-by v e h)) k ∙ ap (λ (y : List ℕ). two v ++ y) (s .laid));
     }
 
 channels-more : (n e k : ℕ) (bytes rest : List ℕ) (m : Channel) (d c : Contents) → In 1 n (m .source) → In 1 n (m .sink) → bytes ≡ m .source ∷ m .sink ∷ rest
@@ -107,7 +106,7 @@ channels-more n e k bytes rest m d c a b l i j =
       ends = ((a, b), i .ends);
       sized = i .sized;
       each = i .each;
-      laid = l ∙ ap (λ (y : List ℕ). m .source ∷ m .sink ∷ y) (i .laid)
+      laid = l ∙ ap (λ (y : List ℕ). m .source ∷ m .sink ∷ y) (i .laid);
     })
 
 channels-said : (n e k : ℕ) (bytes : List ℕ) (c : Contents) → e ≤ 192 → channels n e k bytes ≡ Ok c → ChannelsSaid n e k bytes c
@@ -135,7 +134,7 @@ entry-by : (k n : ℕ) (bytes one more text after rest : List ℕ) (m : Entry) �
 entry-by k n bytes one more text after rest m hk lk hn ln t e r =
     rw (← e, ← r) (record {
       named = (rw (t .long) hn, t .shown);
-      laid = lk ∙ rw (code-of k hk, t .long) (ap (λ (y : List ℕ). k ∷ y) (ln ∙ ap (λ (y : List ℕ). n ∷ y) (t .laid)))
+      laid = lk ∙ rw (code-of k hk, t .long) (ap (λ (y : List ℕ). k ∷ y) (ln ∙ ap (λ (y : List ℕ). n ∷ y) (t .laid)));
     })
 
 entry-said : (bytes : List ℕ) (m : Entry) (rest : List ℕ) → entry bytes ≡ Ok (m, rest) → EntrySaid bytes m rest
@@ -169,7 +168,7 @@ modules-none n e bytes rest c l k s =
       ends = s .ends;
       sized = rw (s .long) (s .sized);
       each = s .each;
-      laid = rw (s .modules, s .long) (counted-laid bytes e rest l k ∙ ap (λ (y : List ℕ). two e ++ y) (s .laid))
+      laid = rw (s .modules, s .long) (counted-laid bytes e rest l k ∙ ap (λ (y : List ℕ). two e ++ y) (s .laid));
     }
 
 modules-more : (n k : ℕ) (bytes rest : List ℕ) (m : Entry) (d c : Contents) → EntrySaid bytes m rest → ModulesSaid n k rest d → join (one-module m) d ≡ c → ModulesSaid n (suc k) bytes c
@@ -181,7 +180,7 @@ modules-more n k bytes rest m d c o i j =
       ends = i .ends;
       sized = i .sized;
       each = i .each;
-      laid = o .laid ∙ rw append-assoc (ap (λ (y : List ℕ). kind-byte (m .kind) ∷ length (m .name) ∷ (m .name ++ y)) (i .laid))
+      laid = o .laid ∙ rw append-assoc (ap (λ (y : List ℕ). kind-byte (m .kind) ∷ length (m .name) ∷ (m .name ++ y)) (i .laid));
     })
 
 modules-said : (n k : ℕ) (bytes : List ℕ) (c : Contents) → modules n k bytes ≡ Ok c → ModulesSaid n k bytes c
@@ -199,7 +198,7 @@ said-by : (n : ℕ) (bytes rest : List ℕ) (c : Contents) → In 1 64 n → Cou
 said-by n bytes rest c h k s =
     record {
       valid = record { some = rw (s .long) h; named = s .named; few = s .few; ends = rw (s .long) (s .ends); sized = s .sized; sizes = s .each };
-      laid = rw (s .long) (counted-laid bytes n rest (omega arith) k ∙ ap (λ (y : List ℕ). two n ++ y) (s .laid))
+      laid = rw (s .long) (counted-laid bytes n rest (omega arith) k ∙ ap (λ (y : List ℕ). two n ++ y) (s .laid));
     }
 
 pub said : (bytes : List ℕ) (c : Contents) → contents bytes ≡ Ok c → Says bytes c

@@ -1,19 +1,18 @@
 -- A record off the front of a section.
-use Prim.Native.Nat.{ℕ, zero, suc, _+_, _-_, _<_, _≤_}
-use mathlib.Core.List.{List, [], _∷_}
-use mathlib.Core.Path.{_≡_, refl, sym, _∙_, ap}
+use Prim.Native.Nat.{ℕ, zero, suc, _-_, _<_}
+use mathlib.Core.List.{List}
+use mathlib.Core.Path.{_≡_, refl}
 use native.Mathlib.Omega.{arith}
 use lib.Dec.{eqb}
 use mathlib.Core.Bool.{false}
 use Rattle.std.proofs.shelf.Ways.{tells}
-use Rattle.std.specs.declared.result.Result.{Result}
 use Rattle.std.specs.declared.result.Result.the-variants.{Ok, Err}
 use Rattle.netlist.specs.declared.flaw.Flaw.{Flaw}
 use Rattle.netlist.specs.declared.channel.Channel.{Channel}
 use Rattle.netlist.specs.declared.scan.Section.{Section}
 use Rattle.netlist.specs.declared.scan.Section.the-variants.{Start, Modules, Channels, Sizes}
-use Rattle.netlist.specs.Faults.{Reading, one-channel, one-module, one-size, before, byte, channel, channels, entry, modules, sizes}
-use Rattle.netlist.specs.Layout.{Contents, Entry}
+use Rattle.netlist.specs.Faults.{one-channel, one-module, one-size, before, byte, channel, channels, entry, modules, sizes}
+use Rattle.netlist.specs.Layout.{Entry}
 use Rattle.netlist.specs.Scans.{ahead-in, count-due}
 
 less-one : (k : ℕ) → suc k - 1 ≡ k

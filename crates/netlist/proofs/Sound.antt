@@ -1,11 +1,10 @@
 -- What was read keeps its limits.
 use Prim.Native.Nat.{ℕ, zero, suc, _+_, _-_, _*_, _<_, _≤_}
 use mathlib.Core.List.{List, [], _∷_, _++_}
-use mathlib.Core.Path.{_≡_, refl, sym, _∙_, ap}
+use mathlib.Core.Path.{_≡_, refl, _∙_, ap}
 use mathlib.Core.Bool.{Bool, true, false, cond}
-use lib.ListN.{length, getD, length-append}
+use lib.ListN.{length, length-append}
 use native.Mathlib.Omega.{arith}
-use borrow.Author.Tests.{leb-true}
 use Rattle.std.proofs.shelf.Ways.{tells}
 use Rattle.std.specs.Text.{In, within}
 use Rattle.std.specs.declared.result.Result.{Result}
@@ -13,8 +12,8 @@ use Rattle.std.specs.declared.result.Result.the-variants.{Ok, Err}
 use Rattle.netlist.specs.declared.flaw.Flaw.{Flaw}
 use Rattle.netlist.specs.declared.channel.Channel.{Channel}
 use Rattle.netlist.specs.declared.kind.Kind.{Kind}
-use Rattle.netlist.specs.Faults.{Reading, byte, channel, channels, count, entry, kind-of, modules, name, sizes, then}
-use Rattle.netlist.specs.Layout.{Contents, Entry}
+use Rattle.netlist.specs.Faults.{Reading, byte, channel, count, entry, kind-of, name, then}
+use Rattle.netlist.specs.Layout.{Entry}
 use Rattle.netlist.specs.Limits.{Named, Shown}
 
 -- What stands behind an `Ok` that came by two steps.

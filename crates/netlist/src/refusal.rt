@@ -1,4 +1,3 @@
-ghost use mathlib.Core.List.{_++_};
 ghost use mathlib.Core.Path.{_≡_};
 ghost use Rattle.netlist.specs.Refusals.{number as numberOf, refusal-line};
 ghost use Rattle.std.specs.declared.option.Option.the-variants.{Some};

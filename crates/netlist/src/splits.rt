@@ -1,5 +1,4 @@
 // What stands at the front of the bytes of a file, and the bytes after it.
-ghost use Prim.Native.Nat.{ℕ, _≤_};
 ghost use mathlib.Core.Bool.{_||_};
 ghost use lib.Dec.{eqb};
 ghost use Rattle.std.specs.Text.{within};

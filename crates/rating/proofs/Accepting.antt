@@ -1,7 +1,7 @@
 -- What an accepted rating holds.
 use Prim.Native.Nat.{ℕ, _≤_}
 use native.Mathlib.Omega.{arith}
-use mathlib.Core.Bool.{Bool, false, cond, _||_}
+use mathlib.Core.Bool.{false, _||_}
 use mathlib.Core.List.{List}
 use mathlib.Core.Path.{_≡_, refl, subst, sym}
 use denote.Ref.{now}
@@ -43,9 +43,9 @@ module _ (r : Rating) (cycle cycle′ : List ℕ) (potentials potentials′ : Li
           sized = sized;
           is-rate = h .is-rate;
           short = h .short;
-          potential = λ v l. (getD potentials′ v (pos 0), h .potential v l, h .range v l .0, h .range v l .1)
+          potential = λ v l. (getD potentials′ v (pos 0), h .potential v l, h .range v l .0, h .range v l .1);
         };
-        lists = h
+        lists = h;
       }
 
   -- the same of the netlist that the rating was made of

@@ -1,5 +1,5 @@
 -- The extended graph keeps the limits of graphs.
-use Prim.Native.Nat.{ℕ, _+_, _-_, _*_, _<_, _≤_}
+use Prim.Native.Nat.{ℕ, _-_, _<_, _≤_}
 use native.Mathlib.Omega.{arith}
 use mathlib.Core.List.{List}
 use mathlib.Core.Path.{_≡_, subst₂, sym}
@@ -39,13 +39,13 @@ fits n qs h =
     let d : Channel = record { source = 0; sink = 0 } in
     let all = extended-all (Kept (modules n)) (kind-of n) (channels-of n) qs d (λ i l m. both-kept (modules n) (kind-of n) (getD (channels-of n) i d) (getD qs i 0) (n .sources i d l) (n .sinks i d l) (sized .1 i m)) in
     let one : (p : ℕ) → p < length (graph-of n qs) → Kept (modules n) (getD (graph-of n qs) p (record { from = 0; to = 0; tokens = 0 })) =
-        λ p l. all-getD (Kept (modules n)) (graph-of n qs) p (record { from = 0; to = 0; tokens = 0 }) l all in
+    λ p l. all-getD (Kept (modules n)) (graph-of n qs) p (record { from = 0; to = 0; tokens = 0 }) l all in
     record {
       some = n .some;
       few = omega (arith, length-extended (kind-of n) (channels-of n) qs same, n .few, n .channels .ok .0);
       starts = λ p l. one p l .0;
       ends = λ p l. one p l .1;
-      light = λ p l. one p l .2
+      light = λ p l. one p l .2;
     }
 
 pub fits-as : (n : Netlist) (qs : List ℕ) (m : ℕ) (G : List Place) → m ≡ modules n → G ≡ graph-of n qs → sizing-fault (channels n) qs ≡ None → Fit m G

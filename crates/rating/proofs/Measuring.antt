@@ -11,7 +11,7 @@ use Rattle.std.proofs.shelf.Lists.{length-take}
 use Rattle.marked.specs.declared.place.Place.{Place}
 use Rattle.marked.specs.Answers.{Measured}
 use Rattle.marked.proofs.Walks.{leads-inside}
-use Rattle.rating.specs.Ratings.{Rates, Shows-cycle}
+use Rattle.rating.specs.Ratings.{Rates}
 
 -- a part from the front of a list, as the code takes it
 pub front-is : {A : Type 0} (k : ℕ) (xs : List A) → take (k - 0) xs ≡ take k xs
@@ -48,7 +48,7 @@ module _ (n : ℕ) (G : List Place) (p l k : ℕ) (vs vs′ : List ℤ) (cs cs�
         cycle-kept = λ i m. behind i (omega arith);
         potential = h .settled .potentials;
         range = h .settled .range;
-        potentials-kept = h .settled .kept
+        potentials-kept = h .settled .kept;
       }
 
 -- the graph that was rated is the netlist's

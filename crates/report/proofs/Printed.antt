@@ -1,14 +1,11 @@
 -- What is printed of a netlist, and of a file.
-use Prim.Native.Nat.{ℕ, suc, _-_, _<_, _≤_}
+use Prim.Native.Nat.{ℕ, _-_, _<_, _≤_}
 use native.Mathlib.Nat.{sub-zero}
 use native.Mathlib.Omega.{arith}
-use mathlib.Core.Bool.{Bool, true, false, cond}
 use mathlib.Core.List.{List, [], map}
 use mathlib.Core.Logic.{_⊎_, inl, inr, ⊎-elim}
 use mathlib.Core.Path.{_≡_, refl, sym, _∙_, ap, subst}
-use denote.Ref.{now}
-use lib.Dec.{leb}
-use lib.IntN.{ℤ, pos}
+use lib.IntN.{ℤ}
 use lib.ListN.{getD, length, take}
 use borrow.Author.Tests.{le-leb}
 use Rattle.std.proofs.shelf.Elements.{all-getD}
@@ -19,13 +16,12 @@ use Rattle.std.specs.Vec.{made}
 use Rattle.std.specs.declared.option.Option.the-variants.{None}
 use Rattle.std.specs.declared.result.Result.{Result}
 use Rattle.std.specs.declared.result.Result.the-variants.{Ok, Err}
-use Rattle.netlist.specs.declared.channel.Channel.{Channel}
 use Rattle.netlist.specs.declared.netlist.Module.{Module}
 use Rattle.netlist.specs.declared.netlist.Netlist.{Netlist}
 use Rattle.netlist.specs.declared.refusal.Refusal.{Refusal}
 use Rattle.netlist.specs.Faults.{verdict}
 use Rattle.netlist.specs.Holds.{Filled, Holds, channels, entry-of, modules, whole-verdict, with-room}
-use Rattle.netlist.specs.Layout.{Contents, Entry, Valid}
+use Rattle.netlist.specs.Layout.{Contents, Valid}
 use Rattle.netlist.proofs.Exact.{says-of}
 use Rattle.rating.specs.declared.rating.Rating.{Rating}
 use Rattle.rating.specs.Ratings.{Accepted}
@@ -75,17 +71,17 @@ module _ (file : List ℕ) (n m : Netlist) (was is : List ℕ) (room : 192 ≤ l
   sized =
       rw (sub-zero e)
       (sizing-good (channels m) (take e is) (omega (arith, length-take-le e is fits, count, m .channels .ok .0))
-       (λ i l. let here : i < e = omega (arith, length-take-le e is fits) in
-        rw (getD-take e is i 0 here, f .3 .sizes i (omega (arith, counted))) (size-in contents (f .2 .valid) i (omega (arith, counted)))))
+      (λ i l. let here : i < e = omega (arith, length-take-le e is fits) in
+      rw (getD-take e is i 0 here, f .3 .sizes i (omega (arith, counted))) (size-in contents (f .2 .valid) i (omega (arith, counted)))))
 
   held : Holds contents m [] (take e is)
   unfolding contents
   held = record {
-      modules = f .3 .modules;
-      channels = f .3 .channels;
-      sizes = λ k l. let here : k < e = omega (arith, counted) in getD-take e is k 0 here ∙ f .3 .sizes k l;
-      behind = λ k l. getD-past (take e is) k 0 (omega (arith, counted, length-take-le e is fits))
-    }
+    modules = f .3 .modules;
+    channels = f .3 .channels;
+    sizes = λ k l. let here : k < e = omega (arith, counted) in getD-take e is k 0 here ∙ f .3 .sizes k l;
+    behind = λ k l. getD-past (take e is) k 0 (omega (arith, counted, length-take-le e is fits));
+  }
 
   pub file-text : (text : List ℕ) → Netlist-text m (take (e - 0) is) text → Prints file text
   unfolding contents
@@ -106,7 +102,7 @@ rated-own m sizing cycle cycle′ zs zs′ r text a t =
       is-rate = a .lists .is-rate;
       shown = ⊎-elim (λ one. inl (one .0, rw (one .1) refl)) (λ some. inr (some .0, (some .2 .walk, some .2 .shown, some .2 .numbers))) (a .lists .shown);
       potential = a .lists .potential;
-      is = t
+      is = t;
     }
 
 pub rated-text : (n m : Netlist) (sizing cycle cycle′ : List ℕ) (zs zs′ : List ℤ) (r : Rating) (k : ℕ) (rate : ℕ × ℕ) (ms : List Module) (text : List ℕ)

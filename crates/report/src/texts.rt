@@ -50,5 +50,11 @@ fn netlist_text(heap: Global, netlist: &Netlist, sizing: &[u8]) -> Result<String
         Err(_) => unreachable(),
     };
     let length = rating.length();
-    rating_text(heap, rating.rate(), &cycle[0..length], netlist.modules(), &potentials)
+    rating_text(
+        heap,
+        rating.rate(),
+        &cycle[0..length],
+        netlist.modules(),
+        &potentials,
+    )
 }

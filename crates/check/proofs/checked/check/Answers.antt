@@ -1,4 +1,4 @@
-use mathlib.Core.Logic.{inl, inr}
+use mathlib.Core.Logic.{inr}
 use mathlib.Core.Path.{refl}
 use Rattle.check.proofs.Passes.{passed}
 use Rattle.check.proofs.checked.check.Needs as need

@@ -1,10 +1,9 @@
 use Prim.Native.Nat.{_-_}
 use mathlib.Core.Bool.{false}
-use mathlib.Core.Path.{_≡_, ap, subst, sym}
+use mathlib.Core.Path.{_≡_}
 use borrow.Author.Needs.{needs}
 use native.Mathlib.Omega.{arith}
 use lib.ListN.{getD, length}
-use Rattle.std.specs.Text.{In}
 use Rattle.netlist.specs.Holds.{modules}
 use Rattle.check.specs.Nets.{Hops}
 use Rattle.check.specs.declared.link.Link.the-variants.{Relays}

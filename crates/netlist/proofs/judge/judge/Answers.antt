@@ -7,9 +7,10 @@ use Rattle.netlist.proofs.Joined.{counted-more, gathers-none, no-channel-held,
 use Rattle.netlist.proofs.judge.judge.Needs as need
 
 pub loop-record-holds : need.loop-record-holds
-loop-record-holds c =
-    (omega (arith, ap length (c .new-reader .ensures .whole)),
-     (nothing, sym (c .new-reader .ensures .all) ∙ gathers-none (coming (c .new-reader .result)), refl))
+loop-record-holds c = (
+  omega (arith, ap length (c .new-reader .ensures .whole)),
+  (nothing, sym (c .new-reader .ensures .all) ∙ gathers-none (coming (c .new-reader .result)), refl),
+)
 
 pub loop-record-again-in-Channel : need.loop-record-again-in-Channel
 loop-record-again-in-Channel c =

@@ -21,13 +21,14 @@ pub returns : need.returns
 returns c =
     let all = c .in-Continue-modules .field-0 in
     let is = c .in-Continue-modules .ensures tt in
-    let count = same-count (verdict (c .args .file .now)) (c .in-Continue-count .count) (gathered all) (c .in-Continue-count .ensures tt) is in
-    (gathered all,
-     fits-verdict (c .args .file .now) _ (gathered all) is (omega (arith, count)),
-     says-of (c .args .file .now) (gathered all) is,
-     record {
-       modules = refl;
-       channels = refl;
-       sizes = λ k h. c .put-sizes .ensures .front k (omega (arith, count)) ∙ ap (λ (s : List ℕ). getD s k 1) (c .as-slice .ensures .value);
-       behind = λ k h. c .put-sizes .ensures .back k (omega (arith, count))
-     })
+    let count = same-count (verdict (c .args .file .now)) (c .in-Continue-count .count) (gathered all) (c .in-Continue-count .ensures tt) is in (
+      gathered all,
+      fits-verdict (c .args .file .now) _ (gathered all) is (omega (arith, count)),
+      says-of (c .args .file .now) (gathered all) is,
+      record {
+        modules = refl;
+        channels = refl;
+        sizes = λ k h. c .put-sizes .ensures .front k (omega (arith, count)) ∙ ap (λ (s : List ℕ). getD s k 1) (c .as-slice .ensures .value);
+        behind = λ k h. c .put-sizes .ensures .back k (omega (arith, count));
+      },
+    )

@@ -1,5 +1,5 @@
-use Prim.Native.Nat.{_*_, _+_}
-use mathlib.Core.Path.{_≡_, _∙_, ap, sym}
+use Prim.Native.Nat.{_*_}
+use mathlib.Core.Path.{_≡_, ap}
 use lib.ListN.{length}
 use native.Mathlib.Omega.{arith}
 use Rattle.netlist.specs.Holds.{channels-of, kind-of}
@@ -16,5 +16,5 @@ returns c =
     let same : length (c .channels-channels .result .now) ≡ length (channels-of (c .args .netlist .now)) = ap length (c .channels-channels .ensures) in
     record {
       count = ap (λ n. 2 * n) same;
-      places = extended-end (kind-of (c .args .netlist .now)) (channels-of (c .args .netlist .now)) (c .args .sizing .now) (c .loop-at .at) _ (c .loop-at .places) (c .pre .sized) (omega arith) (omega arith) same (c .loop-at .inv)
+      places = extended-end (kind-of (c .args .netlist .now)) (channels-of (c .args .netlist .now)) (c .args .sizing .now) (c .loop-at .at) _ (c .loop-at .places) (c .pre .sized) (omega arith) (omega arith) same (c .loop-at .inv);
     }

@@ -13,5 +13,5 @@ returns c =
     let items = c .items-at-reset-items .ensures ∙ ap reset-items (kind-read (c .args .netlist .now) (c .modules .result .now) (c .args .channel .source) _ (c .modules .ensures) (omega (arith, ap length (c .modules .ensures)))) in
     record {
       there = ap (λ (t : ℕ). record { from = source; to = sink; tokens = t }) items;
-      back = ap (λ (t : ℕ). record { from = sink; to = source; tokens = c .args .size + 1 - t }) items
+      back = ap (λ (t : ℕ). record { from = sink; to = source; tokens = c .args .size + 1 - t }) items;
     }

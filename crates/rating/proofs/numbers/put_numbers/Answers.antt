@@ -1,7 +1,6 @@
 use mathlib.Core.Path.{_≡_}
-use lib.ListN.{length, take}
+use lib.ListN.{length}
 use native.Mathlib.Omega.{arith}
-use Rattle.std.proofs.shelf.Lists.{take-all}
 use Rattle.rating.proofs.Numbering.{numbers-all, numbers-more}
 use Rattle.rating.proofs.numbers.put_numbers.Needs as need
 
@@ -13,5 +12,5 @@ returns c =
     let all : c .loop-at .at ≡ length (c .args .walk .now) = omega arith in
     record {
       front = numbers-all (c .args .walk .now) (c .loop-at .numbers) (c .loop-at .at) all (c .loop-at .inv .0);
-      behind = λ k l. c .loop-at .inv .1 k (omega arith)
+      behind = λ k l. c .loop-at .inv .1 k (omega arith);
     }

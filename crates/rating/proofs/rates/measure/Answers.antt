@@ -1,12 +1,8 @@
-use Prim.Native.Nat.{ℕ, suc, _-_}
-use mathlib.Core.List.{List, map}
-use mathlib.Core.Path.{_≡_, _∙_, ap, sym}
-use native.Mathlib.Nat.{sub-zero}
+use Prim.Native.Nat.{_-_}
+use mathlib.Core.Path.{_∙_, ap, sym}
 use native.Mathlib.Omega.{arith}
 use borrow.Author.Needs.{needs}
-use lib.ListN.{length, take}
-use Rattle.std.proofs.shelf.Lists.{length-take-le}
-use Rattle.marked.specs.Answers.{Measured}
+use lib.ListN.{length}
 use Rattle.netlist.specs.Holds.{modules}
 use Rattle.rating.specs.Extended.{graph-of}
 use Rattle.rating.proofs.Fitting.{fits-as}
@@ -17,7 +13,7 @@ pub new-graph-requires : need.new-graph-requires
 new-graph-requires c κs =
     let n = c .args .netlist .now in
     record {
-      fit = fits-as n (c .args .sizing .now) _ _ (ap length (c .modules .ensures) ∙ sym (n .modules .ok .0)) (front-is (c .extend-count .result) (c .extend-count .last .places) ∙ c .extend-count .ensures .places) (c .pre .sized)
+      fit = fits-as n (c .args .sizing .now) _ _ (ap length (c .modules .ensures) ∙ sym (n .modules .ok .0)) (front-is (c .extend-count .result) (c .extend-count .last .places) ∙ c .extend-count .ensures .places) (c .pre .sized);
     }
 
 pub put-numbers-requires : need.put-numbers-requires
@@ -26,7 +22,7 @@ put-numbers-requires c κs =
     let all = c .new-graph .ensures .modules ∙ ap length (c .modules .ensures) ∙ sym (c .args .netlist .now .modules .ok .0) in
     record {
       room = put-room _ _ _ _ _ _ _ _ _ (c .rate-rated .ensures) _ (omega (arith, all, c .pre .space));
-      few = put-few _ _ _ _ _ _ _ _ _ (c .rate-rated .ensures) few
+      few = put-few _ _ _ _ _ _ _ _ _ (c .rate-rated .ensures) few;
     }
 
 pub returns : need.returns
@@ -34,7 +30,7 @@ returns c =
     let n = c .args .netlist .now in
     rates _ _ _ _ _ _ _ _ _
     (of-netlist _ (modules n) _ (graph-of n (c .args .sizing .now)) _ _ _ _ _ _ _
-     (c .new-graph .ensures .modules ∙ ap length (c .modules .ensures) ∙ sym (n .modules .ok .0))
-     (c .new-graph .ensures .places ∙ front-is (c .extend-count .result) (c .extend-count .last .places) ∙ c .extend-count .ensures .places)
-     (c .rate-rated .ensures))
+    (c .new-graph .ensures .modules ∙ ap length (c .modules .ensures) ∙ sym (n .modules .ok .0))
+    (c .new-graph .ensures .places ∙ front-is (c .extend-count .result) (c .extend-count .last .places) ∙ c .extend-count .ensures .places)
+    (c .rate-rated .ensures))
     _ _ (search needs) (c .put-numbers .ensures .front) (c .put-numbers .ensures .behind)

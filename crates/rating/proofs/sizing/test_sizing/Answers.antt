@@ -1,4 +1,4 @@
-use mathlib.Core.Path.{_≡_, _∙_}
+use mathlib.Core.Path.{_∙_}
 use lib.ListN.{getD}
 use mathlib.Core.Logic.{inl, inr}
 use native.Mathlib.Omega.{arith}
@@ -11,10 +11,10 @@ use Rattle.rating.proofs.sizing.test_sizing.Needs.{then-size-lt1·by·then-siz
 pub returns-then-size-lt1 : need.returns-then-size-lt1
 returns-then-size-lt1 c =
     let bad : Out 1 16 (getD (c .args .sizing .now) (c .loop-at .at) 0) =
-        elim (c .then-size-lt1 .came) [
-          then-size-lt1·by·then-size-lt1 w ↦ inl (search needs)
-        | then-size-lt1·by·else-size-lt1·then-size-gt16 w ↦ inr (search needs)
-        ] in
+    elim (c .then-size-lt1 .came) [
+      | then-size-lt1·by·then-size-lt1 w ↦ inl (search needs)
+      | then-size-lt1·by·else-size-lt1·then-size-gt16 w ↦ inr (search needs)
+    ] in
     sized (c .args .channels) (c .args .sizing .now) (c .if-sizing-channels .left) ∙ c .loop-at .inv ∙ bad-here _ (c .args .sizing .now) (c .loop-at .at) (omega arith) bad
 
 pub loop-at-again : need.loop-at-again

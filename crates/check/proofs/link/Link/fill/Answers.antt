@@ -3,7 +3,6 @@ use mathlib.Core.Path.{_≡_, ap, subst}
 use native.Mathlib.Omega.{arith}
 use lib.ListN.{length}
 use Rattle.std.specs.Orderings.{Decides}
-use Rattle.netlist.specs.declared.netlist.Module.{Module}
 use Rattle.check.specs.Links.{Move, Step}
 use Rattle.netlist.specs.Holds.{modules}
 use Rattle.check.proofs.Fills.{entry-more, row-column, table-filled}

@@ -1,5 +1,4 @@
 use mathlib.Core.Path.{refl}
-use borrow.Author.Needs.{needs}
 use Rattle.netlist.proofs.Joined.{added-module}
 use Rattle.netlist.proofs.gather.Gathered.add.Needs as need
 

@@ -24,7 +24,7 @@ returns-in-Continue-kind c =
     record {
       takes = ahead-module _ _ _ _ _ (c .pre) _ _ (c .in-Modules .is) (c .in-Continue-kind .ensures tt);
       fair = entry-named (c .args .self .now .rest .now) _ _ (c .in-Continue-kind .ensures tt);
-      shorter = entry-shorter (c .args .self .now .rest .now) _ _ (c .in-Continue-kind .ensures tt)
+      shorter = entry-shorter (c .args .self .now .rest .now) _ _ (c .in-Continue-kind .ensures tt);
     }
 
 pub returns-in-Continue-channel : need.returns-in-Continue-channel
@@ -32,7 +32,7 @@ returns-in-Continue-channel c =
     record {
       takes = ahead-channel _ _ _ _ _ (c .pre) _ _ (c .in-Channels .is) (c .in-Continue-channel .ensures tt);
       fair = tt;
-      shorter = channel-shorter (c .args .self .now .modules) (c .args .self .now .rest .now) _ _ (c .in-Continue-channel .ensures tt)
+      shorter = channel-shorter (c .args .self .now .modules) (c .args .self .now .rest .now) _ _ (c .in-Continue-channel .ensures tt);
     }
 
 pub returns-in-Continue-size : need.returns-in-Continue-size
@@ -40,7 +40,7 @@ returns-in-Continue-size c =
     record {
       takes = ahead-size _ _ _ _ _ (c .pre) _ _ (c .in-Sizes .is) (c .in-Continue-size .ensures tt);
       fair = tt;
-      shorter = byte-shorter 1 16 (c .args .self .now .rest .now) _ _ (c .in-Continue-size .ensures tt)
+      shorter = byte-shorter 1 16 (c .args .self .now .rest .now) _ _ (c .in-Continue-size .ensures tt);
     }
 
 pub unreachable-requires : need.unreachable-requires
