@@ -35,7 +35,7 @@ relay-read n v ms m true same h test = rw (kind-read n v m h, ← same) ((λ y. 
 relay-read n v ms m false same h test = rw (kind-read n v m h, ← same) ((λ y. absurd (false≢true y)), (λ y. absurd (test y)))
 
 -- the ends of a channel are modules
-pub sink-in : (n : Netlist) (e : ℕ) → In 1 (channels n) e → In 1 (modules n) (channel n e .sink)
+sink-in : (n : Netlist) (e : ℕ) → In 1 (channels n) e → In 1 (modules n) (channel n e .sink)
 sink-in n e h = n .sinks (e - 1) (record { source = 0; sink = 0 }) (omega (arith, h .0, h .1, n .channels .ok .0))
 
 pub source-in : (n : Netlist) (e : ℕ) → In 1 (channels n) e → In 1 (modules n) (channel n e .source)

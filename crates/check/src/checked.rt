@@ -1,3 +1,4 @@
+// The check itself, and the state that it gives. The netlist is lent to it, so it cannot change while the state is held.
 ghost use mathlib.Core.Path.{_≡_};
 ghost use Rattle.std.specs.Results.{Cases};
 ghost use Rattle.check.specs.Verdicts.{Passed, Refused};
@@ -15,6 +16,7 @@ pub struct Checked<'n> {
 }
 
 impl<'n> Checked<'n> {
+    /// The netlist that passed.
     pub fn netlist(&self) -> &'n Netlist
         ensures { λ r. ⌜ now r ≡ now (now (self .entry) .netlist) ⌝ }
     {

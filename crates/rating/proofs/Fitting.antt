@@ -50,3 +50,6 @@ fits n qs h =
 
 pub fits-as : (n : Netlist) (qs : List ℕ) (m : ℕ) (G : List Place) → m ≡ modules n → G ≡ graph-of n qs → sizing-fault (channels n) qs ≡ None → Fit m G
 fits-as n qs m G e g h = subst₂ Fit (sym e) (sym g) (fits n qs h)
+
+pub few-places : (n : Netlist) (qs : List ℕ) → sizing-fault (channels n) qs ≡ None → length (graph-of n qs) ≤ 384
+few-places n qs h = fits n qs h .few

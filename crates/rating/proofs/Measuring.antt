@@ -11,7 +11,7 @@ use Rattle.std.proofs.shelf.Lists.{length-take}
 use Rattle.marked.specs.declared.place.Place.{Place}
 use Rattle.marked.specs.Answers.{Measured}
 use Rattle.marked.proofs.Walks.{leads-inside}
-use Rattle.rating.specs.Ratings.{Rates}
+use Rattle.rating.specs.Ratings.{Rated-cycle, Rates}
 
 -- a part from the front of a list, as the code takes it
 pub front-is : {A : Type 0} (k : ℕ) (xs : List A) → take (k - 0) xs ≡ take k xs
@@ -34,6 +34,16 @@ module _ (n : ℕ) (G : List Place) (p l k : ℕ) (vs vs′ : List ℤ) (cs cs�
 
   pub put-room : (room : ℕ) → n ≤ room → length (take (k - 0) cs′) ≤ room
   put-room room le = omega (arith, length-take (k - 0) cs′, sub-zero k, length-shown)
+
+  -- the rate with its cycle alone
+  pub rated-cycle : Rated-cycle n G p l k cs cs′
+  rated-cycle =
+      record {
+        is-rate = h .is-rate;
+        short = h .short;
+        shown = ⊎-elim (λ none. inl (none .1 ∙ sym (none .2), none .0)) (λ some. inr (some .1, some .0, some .2)) (h .shown);
+        kept = h .kept;
+      }
 
   -- with the numbers that were put into the caller's list
   pub rates : (cycle cycle′ : List ℕ) → n ≤ length cs′ → take (length (take (k - 0) cs′)) cycle′ ≡ map suc (take (k - 0) cs′)

@@ -43,18 +43,18 @@ sizes-fit k [] h i l = absurd (omega arith)
 sizes-fit k (q ∷ qs) h zero l = within-in 1 16 q (bad-cons k q qs h .0)
 sizes-fit k (q ∷ qs) h (suc i) l = sizes-fit (suc k) qs (bad-cons k q qs h .1) i (omega arith)
 
-cond-none : (b : Bool) (o : Option Refusal) (x : Refusal) → cond b o (Some x) ≡ None → (b ≡ true) × (o ≡ None)
+pub cond-none : (b : Bool) (o : Option Refusal) (x : Refusal) → cond b o (Some x) ≡ None → (b ≡ true) × (o ≡ None)
 cond-none true o x h = (refl, h)
 cond-none false o x h = absurd (let z : _≡_ {A = ℕ} 0 1 = cc in omega arith)
 
-same-length : (n e : ℕ) → eqb n e ≡ true → n ≡ e
+pub same-length : (n e : ℕ) → eqb n e ≡ true → n ≡ e
 same-length n e h = grind (arith, tells)
 
 pub sizing-fits : (e : ℕ) (qs : List ℕ) → sizing-fault e qs ≡ None → (length qs ≡ e) × ((i : ℕ) → i < length qs → In 1 16 (getD qs i 0))
 sizing-fits e qs h = let p = cond-none (eqb (length qs) e) (bad-size 1 qs) (sizes-refused 0) h in (same-length (length qs) e (p .0), sizes-fit 1 qs (p .1))
 
 -- and the other way round
-bad-none : (k : ℕ) (qs : List ℕ) → ((i : ℕ) → i < length qs → In 1 16 (getD qs i 0)) → bad-size k qs ≡ None
+pub bad-none : (k : ℕ) (qs : List ℕ) → ((i : ℕ) → i < length qs → In 1 16 (getD qs i 0)) → bad-size k qs ≡ None
 bad-none k [] h = refl
 bad-none k (q ∷ qs) h = rw (within-true 1 16 q (h 0 (omega arith)), bad-none (suc k) qs (λ i l. h (suc i) (omega arith))) refl
 

@@ -40,6 +40,14 @@ pub record Shows-cycle (G : List Place) (p l k : ℕ) (cycle : List ℕ) : Type 
   pub shown : Shown p l G walk
   pub numbers : take k cycle ≡ map suc walk
 
+-- p/l is the rate of the graph G of n modules, and the first k entries of a list become the indices of a cycle that shows it, none
+-- at rate 1
+pub record Rated-cycle (n : ℕ) (G : List Place) (p l k : ℕ) (cycle cycle′ : List ℕ) : Type 0 where
+  pub is-rate : IsRate G p l
+  pub short : l ≤ n
+  pub shown : ((p ≡ l) × (k ≡ 0)) ⊎ ((p < l) × (k ≤ n) × Shown p l G (take k cycle′))
+  pub kept : (i : ℕ) → k ≤ i → getD cycle′ i 0 ≡ getD cycle i 0
+
 -- p/l is the rate of the graph G of n modules; the cycle list holds k place numbers that show it, none at rate 1; the potential
 -- list holds the potential of each module, module v at its entry v - 1; both keep the rest of what they held before
 pub record Rates (n : ℕ) (G : List Place) (p l k : ℕ) (cycle cycle′ : List ℕ) (potentials potentials′ : List ℤ) : Type 0 where

@@ -4,7 +4,8 @@ ghost use lib.ListN.{length};
 ghost use Rattle.netlist.specs.Holds.{channels, modules};
 ghost use Rattle.rating.specs.Extended.{graph-of};
 ghost use Rattle.check.specs.Verdicts.{Passed};
-ghost use Rattle.rating.specs.Ratings.{Rate-answer, Rates};
+ghost use Rattle.marked.specs.Answers.{Measured};
+ghost use Rattle.rating.specs.Ratings.{Rate-answer, Rated-cycle, Rates};
 ghost use Rattle.rating.specs.Sizings.{sizing-fault};
 ghost use Rattle.std.specs.declared.option.Option.the-variants.{None};
 use crate::extend::extend;
@@ -51,12 +52,12 @@ pub fn rate<'n, 's>(
     })
 }
 
-// Rates the extended graph of a netlist under a sizing that was tested, into lists with room for every module.
-fn measure(netlist: &Netlist, sizing: &[u8], cycle: &mut [u16], potentials: &mut [i32]) -> Rated
+// Rates the extended graph of a netlist under a sizing that was tested. `walk` takes the indices of the places of the cycle.
+fn rate_graph(netlist: &Netlist, sizing: &[u8], walk: &mut [u16], potentials: &mut [i32]) -> Rated
     requires sized { ⌜ sizing-fault (channels (now netlist)) (now sizing) ≡ None ⌝ }
-    requires space { ⌜ modules (now netlist) ≤ length (now cycle) ⌝ }
+    requires space { ⌜ modules (now netlist) ≤ length (now walk) ⌝ }
     requires room { ⌜ modules (now netlist) ≤ length (now potentials) ⌝ }
-    ensures { λ r. ⌜ Rates (modules (now (netlist .entry))) (graph-of (now (netlist .entry)) (now (sizing .entry))) (r .rate .0) (r .rate .1) (r .length) (now (cycle .entry)) (now (cycle .exit)) (now (potentials .entry)) (now (potentials .exit)) ⌝ }
+    ensures { λ r. ⌜ Measured (modules (now (netlist .entry))) (graph-of (now (netlist .entry)) (now (sizing .entry))) (r .rate .0) (r .rate .1) (r .length) (now (potentials .entry)) (now (potentials .exit)) (now (walk .entry)) (now (walk .exit)) ⌝ }
 {
     let nowhere = Place {
         from: 0,
@@ -66,8 +67,29 @@ fn measure(netlist: &Netlist, sizing: &[u8], cycle: &mut [u16], potentials: &mut
     let mut places = [nowhere; PLACES];
     let count = extend(netlist, sizing, &mut places);
     let graph = Graph::new(netlist.modules().len(), &places[0..count]);
+    marked::rate(graph, potentials, walk)
+}
+
+/// The rate of a netlist under a sizing that was tested, and a cycle that shows it, by the indices from 0 of its places in the extended
+/// graph: what a search over many sizings wants of a rating.
+pub fn rated_cycle(netlist: &Netlist, sizing: &[u8], cycle: &mut [u16]) -> Rated
+    requires sized { ⌜ sizing-fault (channels (now netlist)) (now sizing) ≡ None ⌝ }
+    requires space { ⌜ modules (now netlist) ≤ length (now cycle) ⌝ }
+    ensures { λ r. ⌜ Rated-cycle (modules (now (netlist .entry))) (graph-of (now (netlist .entry)) (now (sizing .entry))) (r .rate .0) (r .rate .1) (r .length) (now (cycle .entry)) (now (cycle .exit)) ⌝ }
+{
+    let mut potentials = [0; MODULES];
+    rate_graph(netlist, sizing, cycle, &mut potentials)
+}
+
+// Rates as `rate` does, into lists with room for every module.
+fn measure(netlist: &Netlist, sizing: &[u8], cycle: &mut [u16], potentials: &mut [i32]) -> Rated
+    requires sized { ⌜ sizing-fault (channels (now netlist)) (now sizing) ≡ None ⌝ }
+    requires space { ⌜ modules (now netlist) ≤ length (now cycle) ⌝ }
+    requires room { ⌜ modules (now netlist) ≤ length (now potentials) ⌝ }
+    ensures { λ r. ⌜ Rates (modules (now (netlist .entry))) (graph-of (now (netlist .entry)) (now (sizing .entry))) (r .rate .0) (r .rate .1) (r .length) (now (cycle .entry)) (now (cycle .exit)) (now (potentials .entry)) (now (potentials .exit)) ⌝ }
+{
     let mut walk = [0; MODULES];
-    let rated = marked::rate(graph, potentials, &mut walk);
+    let rated = rate_graph(netlist, sizing, &mut walk, potentials);
     let length = rated.length;
     put_numbers(&walk[0..length], cycle);
     rated

@@ -5,6 +5,7 @@ use native.Mathlib.Omega.{arith}
 use mathlib.Core.List.{List, [], map}
 use mathlib.Core.Logic.{_⊎_, inl, inr, ⊎-elim}
 use mathlib.Core.Path.{_≡_, refl, sym, _∙_, ap, subst}
+use denote.Ref.{now}
 use lib.IntN.{ℤ}
 use lib.ListN.{getD, length, take}
 use borrow.Author.Tests.{le-leb}
@@ -28,7 +29,7 @@ use Rattle.rating.specs.Ratings.{Accepted}
 use Rattle.rating.specs.Sizings.{sizing-fault}
 use Rattle.rating.proofs.Sizes.{sizing-good}
 use Rattle.report.specs.Lines.{rating-lines, refused}
-use Rattle.report.specs.Texts.{File-text, Netlist-text, Prints, Rated-text}
+use Rattle.report.specs.Texts.{File-text, Prints, Rated-text}
 
 -- what is promised of a value that was made, from what is known of it
 pub made-of : {X Y : Type 0} (r : Result X Y) (P Q : X → Type 0) → made r P → ((x : X) → P x → Q x) → made r Q
@@ -43,8 +44,8 @@ roomy room (Ok c) h = rw (le-leb (length (c .channels)) room (h c refl)) refl
 same-verdict : (file : List ℕ) (room : ℕ) → 192 ≤ room → whole-verdict file room ≡ verdict file
 same-verdict file room l = roomy room (verdict file) (λ c h. omega (arith, says-of file c h .valid .few))
 
-pub refused-text : (file text : List ℕ) (room : ℕ) (x : Refusal) → 192 ≤ room → whole-verdict file room ≡ Err x → text ≡ refused x → Prints file text
-refused-text file text room x l h e = subst (λ (v : Result Contents Refusal). File-text v text) (sym h ∙ same-verdict file room l) e
+pub refused-text : (Text : Netlist → List ℕ → List ℕ → Type 0) (file text : List ℕ) (room : ℕ) (x : Refusal) → 192 ≤ room → whole-verdict file room ≡ Err x → text ≡ refused x → Prints Text file text
+refused-text Text file text room x l h e = subst (λ (v : Result Contents Refusal). File-text Text v text) (sym h ∙ same-verdict file room l) e
 
 -- each queue size of a valid file is from 1 to 16
 size-in : (c : Contents) → Valid c → (k : ℕ) → k < length (c .channels) → In 1 16 (getD (c .sizes) k 1)
@@ -83,11 +84,11 @@ module _ (file : List ℕ) (n m : Netlist) (was is : List ℕ) (room : 192 ≤ l
     behind = λ k l. getD-past (take e is) k 0 (omega (arith, counted, length-take-le e is fits));
   }
 
-  pub file-text : (text : List ℕ) → Netlist-text m (take (e - 0) is) text → Prints file text
+  pub file-text : (Text : Netlist → List ℕ → List ℕ → Type 0) (text : List ℕ) → Text m (take (e - 0) is) text → Prints Text file text
   unfolding contents
-  file-text text h =
+  file-text Text text h =
       let says : Ok contents ≡ verdict file = sym (f .1) ∙ same-verdict file (length was) room in
-      subst (λ (v : Result Contents Refusal). File-text v text) says
+      subst (λ (v : Result Contents Refusal). File-text Text v text) says
       (m, take e is, held, omega (arith, length-take-le e is fits, count, m .channels .ok .0), rw (sub-zero e) at h)
 
 -- the lines of an accepted rating
@@ -105,9 +106,12 @@ rated-own m sizing cycle cycle′ zs zs′ r text a t =
       is = t;
     }
 
-pub rated-text : (n m : Netlist) (sizing cycle cycle′ : List ℕ) (zs zs′ : List ℤ) (r : Rating) (k : ℕ) (rate : ℕ × ℕ) (ms : List Module) (text : List ℕ)
-    → m ≡ n → Accepted m sizing cycle cycle′ zs zs′ r → k ≡ r .length → rate ≡ r .rate → ms ≡ vec-items (n .modules)
-    → text ≡ rating-lines (rate .0) (rate .1) (take (k - 0) cycle′) (map entry-of ms) zs′ → Netlist-text n sizing text
-rated-text n m sizing cycle cycle′ zs zs′ r k rate ms text same a long is list t =
-    let lines = rw (is, long, sub-zero (r .length), list, ← same) at t in
-    inl (subst (λ (x : Netlist). Rated-text x sizing text) same (rated-own m sizing cycle cycle′ zs zs′ r text a lines))
+pub rated-text : (n : Netlist) (sizing cycle cycle′ : List ℕ) (zs zs′ : List ℤ) (r : Rating) (k : ℕ) (rate : ℕ × ℕ) (lent : Netlist) (ms : List Module) (text : List ℕ)
+    → Accepted n sizing cycle cycle′ zs zs′ r → k ≡ r .length → rate ≡ r .rate → lent ≡ now (r .netlist) → ms ≡ vec-items (lent .modules)
+    → text ≡ rating-lines (rate .0) (rate .1) (take (k - 0) cycle′) (map entry-of ms) zs′ → Rated-text n sizing text
+rated-text n sizing cycle cycle′ zs zs′ r k rate lent ms text a long is same list t =
+    let held = list ∙ ap (λ (x : Netlist). vec-items (x .modules)) (same ∙ a .netlist) in
+    rated-own n sizing cycle cycle′ zs zs′ r text a (rw (is, long, sub-zero (r .length), held) at t)
+
+pub rated-as : (m n : Netlist) (sizing text : List ℕ) → m ≡ n → Rated-text m sizing text → Rated-text n sizing text
+rated-as m n sizing text e h = subst (λ (x : Netlist). Rated-text x sizing text) e h

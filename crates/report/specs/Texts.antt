@@ -29,14 +29,18 @@ pub record Rated-text (n : Netlist) (sizing text : List ℕ) : Type 0 where
   pub potential : (v : ℕ) → v < modules n → Potential p l (graph-of n sizing) v (getD potentials v (pos 0))
   pub is : text ≡ rating-lines p l places (modules-of n) potentials
 
+-- the text is a refusal of the check
+abbrev pub Check-text : Netlist → List ℕ → Type 0
+Check-text n text = (x : Refusal) × Refused n x × (text ≡ refused x)
+
 -- of a netlist that a file holds: its rating, or the refusal of the check alone
 abbrev pub Netlist-text : Netlist → List ℕ → List ℕ → Type 0
-Netlist-text n sizing text = Rated-text n sizing text ⊎ ((x : Refusal) × Refused n x × (text ≡ refused x))
+Netlist-text n sizing text = Rated-text n sizing text ⊎ Check-text n text
 
--- of a file: the refusal of its fault alone, or the text of the netlist and the sizing that it says
-abbrev pub File-text : Result Contents Refusal → List ℕ → Type 0
-File-text (Err x) text = text ≡ refused x
-File-text (Ok c) text = (n : Netlist) × (sizing : List ℕ) × Holds c n [] sizing × (length sizing ≡ channels n) × Netlist-text n sizing text
+-- of a file: the refusal of its fault alone, or what is printed of the netlist and the sizing that it says
+abbrev pub File-text : (Netlist → List ℕ → List ℕ → Type 0) → Result Contents Refusal → List ℕ → Type 0
+File-text Text (Err x) text = text ≡ refused x
+File-text Text (Ok c) text = (n : Netlist) × (sizing : List ℕ) × Holds c n [] sizing × (length sizing ≡ channels n) × Text n sizing text
 
-abbrev pub Prints : List ℕ → List ℕ → Type 0
-Prints file text = File-text (verdict file) text
+abbrev pub Prints : (Netlist → List ℕ → List ℕ → Type 0) → List ℕ → List ℕ → Type 0
+Prints Text file text = File-text Text (verdict file) text

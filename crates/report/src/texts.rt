@@ -2,10 +2,12 @@ ghost use Rattle.std.specs.Of.String.{string-bytes};
 ghost use Rattle.std.specs.Vec.{made};
 ghost use mathlib.Core.Path.{_≡_};
 ghost use Rattle.netlist.specs.Holds.{channels};
+ghost use Rattle.check.specs.Verdicts.{Passed};
 ghost use Rattle.rating.specs.Sizings.{sizing-fault};
 ghost use Rattle.std.specs.declared.option.Option.the-variants.{None};
-ghost use Rattle.report.specs.Texts.{Netlist-text, Prints};
+ghost use Rattle.report.specs.Texts.{Netlist-text, Prints, Rated-text};
 use crate::lines::rating_text;
+use check::Checked;
 use check::check;
 use marked::MODULES;
 use netlist::Netlist;
@@ -17,11 +19,11 @@ use std::alloc::AllocError;
 use std::alloc::Global;
 
 // As many queue sizes as a netlist can have channels.
-const CHANNELS: usize = 192;
+pub(crate) const CHANNELS: usize = 192;
 
 /// The lines of the rating of a netlist file under its own sizing, or the refusal's line alone.
 pub fn rate_text(heap: Global, file: &[u8]) -> Result<String, AllocError>
-    ensures { λ r. ⌜ made r (λ text. Prints (now (file .entry)) (string-bytes text)) ⌝ }
+    ensures { λ r. ⌜ made r (λ text. Prints Netlist-text (now (file .entry)) (string-bytes text)) ⌝ }
 {
     let mut netlist = Netlist::new(heap)?;
     let mut table = [1; CHANNELS];
@@ -39,10 +41,22 @@ fn netlist_text(heap: Global, netlist: &Netlist, sizing: &[u8]) -> Result<String
     requires { ⌜ sizing-fault (channels (now netlist)) (now sizing) ≡ None ⌝ }
     ensures { λ r. ⌜ made r (λ text. Netlist-text (now (netlist .entry)) (now (sizing .entry)) (string-bytes text)) ⌝ }
 {
-    let checked = match check(netlist) {
-        Ok(checked) => checked,
-        Err(refusal) => return format!(heap, "{refusal}\n"),
-    };
+    match check(netlist) {
+        Ok(checked) => checked_text(heap, checked, sizing),
+        Err(refusal) => format!(heap, "{refusal}\n"),
+    }
+}
+
+// The lines of the rating of a checked netlist.
+pub(crate) fn checked_text(
+    heap: Global,
+    checked: Checked,
+    sizing: &[u8],
+) -> Result<String, AllocError>
+    requires passed { ⌜ Passed (now (checked .netlist)) ⌝ }
+    requires sized { ⌜ sizing-fault (channels (now (checked .netlist))) (now sizing) ≡ None ⌝ }
+    ensures { λ r. ⌜ made r (λ text. Rated-text (now (checked .entry .netlist)) (now (sizing .entry)) (string-bytes text)) ⌝ }
+{
     let mut cycle = [0; MODULES];
     let mut potentials = [0; MODULES];
     let rating = match rate(checked, sizing, &mut cycle, &mut potentials) {
@@ -50,11 +64,6 @@ fn netlist_text(heap: Global, netlist: &Netlist, sizing: &[u8]) -> Result<String
         Err(_) => unreachable(),
     };
     let length = rating.length();
-    rating_text(
-        heap,
-        rating.rate(),
-        &cycle[0..length],
-        netlist.modules(),
-        &potentials,
-    )
+    let modules = rating.netlist().modules();
+    rating_text(heap, rating.rate(), &cycle[0..length], modules, &potentials)
 }
