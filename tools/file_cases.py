@@ -83,7 +83,7 @@ def cases():
         yield f"cut to {length}", SAMPLE[:length]
     yield "one byte more", SAMPLE + b"\0"
     for place in range(len(SAMPLE)):
-        for value in (0, 1, 64, 65, 127, 255):
+        for value in (0, 1, 4, 64, 65, 127, 255):
             yield f"byte {place} set to {value}", SAMPLE[:place] + bytes([value]) + SAMPLE[place + 1:]
     yield "full tables", full()
     yield "full tables without sizes", full(sizing=0)

@@ -25,7 +25,7 @@ fn cuts(rt: &LibcRuntime) -> Result<(), AnyError> {
 // Every byte of the sample, set to values at the ends of the ranges.
 fn changes(rt: &LibcRuntime) -> Result<(), AnyError> {
     for place in 0..SAMPLE.len() {
-        for value in [0, 1, 64, 65, 127, 255] {
+        for value in [0, 1, 4, 64, 65, 127, 255] {
             let mut file = SAMPLE;
             file[place] = value;
             let text = outcome(rt.alloc(), &file)?;
