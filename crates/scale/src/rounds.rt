@@ -8,7 +8,7 @@ use crate::scale::Scale;
 
 // Sets every module to no way, before the first move is added.
 fn clear<S: Scale>(next: &mut [S])
-    ensures { (v : ℕ) → v < length next.old → element scale next.new v ≡ scale.no_way }
+    ensures { (v : ℕ) → v < length next.old → element S.scale next.new v ≡ S.scale.no_way }
 {
     for arrived in next.iter_mut() {
         *arrived = S::no_way();
@@ -19,7 +19,7 @@ fn clear<S: Scale>(next: &mut [S])
 // stands side by side, as `next` does, so the compiler can make several of these steps at once.
 fn depart<S: Scale>(from: S, row: &[S], next: &mut [S])
     requires { length row.now ≡ length next.old }
-    ensures { (v : ℕ) → v < length next.old → element scale next.new v ≡ scale.choice (element scale next.old v) (scale.extension from (element scale row.now v)) }
+    ensures { (v : ℕ) → v < length next.old → element S.scale next.new v ≡ S.scale.choice (element S.scale next.old v) (S.scale.extension from (element S.scale row.now v)) }
 {
     for (v, arrived) in next.iter_mut().enumerate() {
         *arrived = arrived.choice(from.extension(row[v]));
@@ -29,7 +29,7 @@ fn depart<S: Scale>(from: S, row: &[S], next: &mut [S])
 // Writes into `next` what comes to each module by one move.
 fn advance<S: Scale>(elements: &[S], weights: &[S], next: &mut [S])
     requires { Fitting elements.now next.old weights.now }
-    ensures { (v : ℕ) → v < length elements.now → element scale next.new v ≡ arrival scale elements.now weights.now v }
+    ensures { (v : ℕ) → v < length elements.now → element S.scale next.new v ≡ arrival S.scale elements.now weights.now v }
 {
     clear(next);
     let n = elements.len();
@@ -42,7 +42,7 @@ fn advance<S: Scale>(elements: &[S], weights: &[S], next: &mut [S])
 // One round: each module takes what comes to it by one move.
 fn round<S: Scale>(elements: &mut [S], scratch: &mut [S], weights: &[S])
     requires { Fitting elements.old scratch.old weights.now }
-    ensures { (v : ℕ) → v < length elements.old → element scale elements.new v ≡ arrival scale elements.old weights.now v }
+    ensures { (v : ℕ) → v < length elements.old → element S.scale elements.new v ≡ arrival S.scale elements.old weights.now v }
 {
     advance(elements, weights, scratch);
     elements.copy_from_slice(scratch);
@@ -53,9 +53,9 @@ fn round<S: Scale>(elements: &mut [S], scratch: &mut [S], weights: &[S])
 // `weights[u * n + v]`. `scratch` has room for one element of each module; what is left in it is open.
 pub fn rounds<S: Scale>(elements: &mut [S], scratch: &mut [S], weights: &[S], k: u32)
     requires { Fitting elements.old scratch.old weights.now }
-    ensures listed { AllWalks scale elements.old weights.now k elements.new }
+    ensures listed { AllWalks S.scale elements.old weights.now k elements.new }
     ensures every_walk { EveryWalk (length elements.old) k }
-    ensures any_order { AnyOrder scale elements.old weights.now k elements.new }
+    ensures any_order { AnyOrder S.scale elements.old weights.now k elements.new }
 {
     for _ in 0..k {
         round(elements, scratch, weights);

@@ -4,8 +4,8 @@ use Rattle.check.specs.Nets.{Joined, Joins}
 use Rattle.check.proofs.Fills.{entry_of_module, first_alone, table_fits}
 use Rattle.check.proofs.apart.join.Goals as goal
 
-pub slice-bounds-cells-end : goal.slice-bounds-cells-end
-slice-bounds-cells-end c = table_fits c.args.netlist.now c.modules-n.result.now c.modules-n.ensures
+pub slice_bounds-cells-end : goal.slice_bounds-cells-end
+slice_bounds-cells-end c = table_fits c.args.netlist.now c.modules-n.result.now c.modules-n.ensures
 
 pub returns : goal.returns
 returns c = λ v h.

@@ -28,5 +28,5 @@ returns c =
     let count : m - 0 ≡ modules n = omega (arith, ap length c.modules-n.ensures, n.modules.ok.0) in
     let few : m - 0 ≤ 64 = omega (arith, count, n.some.1) in
     let long : length c.fire.new.totals ≡ modules n = c.fire.auto.totals ∙ front_long c.start-cells.result (m - 0) few ∙ count in
-    foretold n c.args.sizing.now c.args.steps _ c.fire.new.totals c.args.firings.now c.put-sums.new.sums c.requires.sized
-    (front_is c.extend-count.result c.extend-count.new.places ∙ c.extend-count.ensures.places) long c.fire.ensures c.put-sums.ensures.front c.put-sums.ensures.behind
+    foretold n c.args.sizing.now c.args.steps _ c.fire.new.totals c.args.firings.now c.put_sums.new.sums c.requires.sized
+    (front_is c.extend-count.result c.extend-count.new.places ∙ c.extend-count.ensures.places) long c.fire.ensures c.put_sums.ensures.front c.put_sums.ensures.behind

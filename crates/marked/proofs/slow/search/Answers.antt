@@ -7,16 +7,16 @@ use Rattle.marked.proofs.slow.search.Goals as goal
 pub next-next-requires : goal.next-next-requires
 next-next-requires c = record { low = low _ _ _ c.loop-k.invariant.0 c.loop-k.k (omega arith) (omega (arith, c.args.weighed.graph.some)) }
 
-pub returns-in-default : goal.returns-in-default
-returns-in-default c = (
+pub returns-in_default : goal.returns-in_default
+returns-in_default c = (
   settled c.args.weighed _ c.loop-k.k c.next-next.result c.args.potentials.now c.settle.new.potentials c.loop-k.invariant.0
-      c.loop-k.invariant.1 c.next-next.ensures c.in-default.ensures c.settle.ensures.written
+      c.loop-k.invariant.1 c.next-next.ensures c.in_default.ensures c.settle.ensures.written
       (λ v h. c.settle.ensures.kept v h ∙ ap (λ l. get_or l v (pos 0)) c.loop-k.invariant.2),
   c.loop-k.invariant.3,
 )
 
-pub walk-back-requires : goal.walk-back-requires
-walk-back-requires c = record {
+pub walk_back-requires : goal.walk_back-requires
+walk_back-requires c = record {
   high = omega arith;
   long = omega (arith, length-set c.loop-k.levels (c.loop-k.k + 1) c.next-next.result);
   rounds = rounds_more _ _ _ _ (omega arith) c.loop-k.invariant.0 c.next-next.ensures;
@@ -28,9 +28,9 @@ walk-back-requires c = record {
 pub loop-k-preserved : goal.loop-k-preserved
 loop-k-preserved c = (
   rounds_more _ _ _ _ (omega arith) c.loop-k.invariant.0 c.next-next.ensures,
-  c.in-default-walk-back.ensures.0,
+  c.in_default-walk_back.ensures.0,
   c.loop-k.invariant.2,
-  c.in-default-walk-back.ensures.1 ∙ c.loop-k.invariant.3,
+  c.in_default-walk_back.ensures.1 ∙ c.loop-k.invariant.3,
 )
 
 pub loop-k-preserved-then-k-ne3 : goal.loop-k-preserved-then-k-ne3

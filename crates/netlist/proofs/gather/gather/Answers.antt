@@ -8,5 +8,5 @@ pub loop-all-preserved : goal.loop-all-preserved
 loop-all-preserved c =
     gathers_more (verdict c.args.file.now) (gathered c.loop-all.all) (gathered c.add.new.self) c.in-Some.record (coming c.loop-all.reader) (coming c.next.new.self)
     c.loop-all.invariant
-    (next_some c.in-ok-record.field-0 c.in-Some.record (coming c.loop-all.reader) (coming c.next.new.self) c.in-Some.is c.in-ok-record.ensures.reads)
-    c.in-ok-add.ensures
+    (next_some c.in_ok-record.field-0 c.in-Some.record (coming c.loop-all.reader) (coming c.next.new.self) c.in-Some.is c.in_ok-record.ensures.reads)
+    c.in_ok-add.ensures

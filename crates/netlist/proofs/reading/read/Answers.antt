@@ -8,22 +8,22 @@ use Rattle.netlist.proofs.reading.read.Goals as goal
 
 pub invariant-of-drop : goal.invariant-of-drop
 invariant-of-drop c =
-    let all = c.in-ok-modules.field-0 in
-    let k = kept_netlist _ _ _ all.modules.ok.0 (valid_kept (gathered all) (says_of c.args.file.now (gathered all) c.in-ok-modules.ensures).valid) in
+    let all = c.in_ok-modules.field-0 in
+    let k = kept_netlist _ _ _ all.modules.ok.0 (valid_kept (gathered all) (says_of c.args.file.now (gathered all) c.in_ok-modules.ensures).valid) in
     (k.some, (search rules, (k.sources, (k.sinks, tt))))
 
 pub returns : goal.returns
 returns c =
-    let all = c.in-ok-modules.field-0 in
-    let is = c.in-ok-modules.ensures in
-    let count = same_count (verdict c.args.file.now) c.in-ok-count.count (gathered all) c.in-ok-count.ensures is in (
+    let all = c.in_ok-modules.field-0 in
+    let is = c.in_ok-modules.ensures in
+    let count = same_count (verdict c.args.file.now) c.in_ok-count.count (gathered all) c.in_ok-count.ensures is in (
       gathered all,
       fits_verdict c.args.file.now _ (gathered all) is (omega (arith, count)),
       says_of c.args.file.now (gathered all) is,
       record {
         modules = refl;
         channels = refl;
-        sizes = λ k h. c.put-sizes.ensures.front k (omega (arith, count)) ∙ ap (λ (s : List ℕ). get_or s k 1) c.as-slice.ensures.value;
-        behind = λ k h. c.put-sizes.ensures.back k (omega (arith, count));
+        sizes = λ k h. c.put_sizes.ensures.front k (omega (arith, count)) ∙ ap (λ (s : List ℕ). get_or s k 1) c.as_slice.ensures.value;
+        behind = λ k h. c.put_sizes.ensures.back k (omega (arith, count));
       },
     )

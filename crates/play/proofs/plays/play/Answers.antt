@@ -14,11 +14,11 @@ returns g c =
     let set = c.args.cores in
     let chip = chip_of r.netlist.now r.sizing.now (m.rules set) (m.held set) in
     let calls : List Call = calls_of (length t) c.args.exchanges.now in
-    let played = c.ask-all.ensures chip at_first t (c.new-run.ensures t) in
+    let played = c.ask_all.ensures chip at_first t (c.new-run.ensures t) in
     let end_is = c.end.ensures in
     record {
       answers = played.0;
       same_rules = ap m.rules end_is ∙ played.1.stands.same_rules;
-      kept = subst (λ (s : g.row.C.Denot). Kept r.netlist.now r.sizing.now r.rate.0 r.rate.1 (m.rules set) (m.held set) calls (m.held s) t c.ask-all.new.table) (sym end_is)
-          (kept m.rules m.held r c.requires set calls t c.ask-all.new.table c.ask-all.new.run played.1 c.ask-all.auto.table);
+      kept = subst (λ (s : g.row.C.Denot). Kept r.netlist.now r.sizing.now r.rate.0 r.rate.1 (m.rules set) (m.held set) calls (m.held s) t c.ask_all.new.table) (sym end_is)
+          (kept m.rules m.held r c.requires set calls t c.ask_all.new.table c.ask_all.new.run played.1 c.ask_all.auto.table);
     }

@@ -3,7 +3,7 @@ use Rattle.queues.specs.Holds.{Gives}
 use Rattle.queues.specs.declared.channels.Channels.{Channels}
 use Rattle.queues.proofs.Gather.{Gathered, gathered_none, gathered_on, gathered_off, gathered_lost, gathered_all}
 use Rattle.queues.proofs.firing.gather.Goals as goal
-use Rattle.queues.proofs.firing.gather.Goals.{then-channels-e+in-Some, then-channels-e+in-default, else-channels-e}
+use Rattle.queues.proofs.firing.gather.Goals.{then-channels-e+in-Some, then-channels-e+in_default, else-channels-e}
 
 pub loop-e-init : goal.loop-e-init
 loop-e-init g c = let m = g.C.CoreSet in gathered_none c.args.channels.now c.args.table.now (m.rules c.args.cores.now) (m.held c.args.cores.now) c.args.v.value c.requires
@@ -26,9 +26,9 @@ loop-e-preserved g c =
           c.loop-e.invariant c.loop-e-test.true (w.if-channels-e.true ∙ c.get.ensures) w.take.ensures.laid w.take.ensures.kept
           w.absorb.ensures.kept w.absorb.ensures.others w.absorb.ensures.own_val
           (λ ok before took put stream fl less. let f = w.take.ensures.flow ok before took put stream fl less in (subst (λ (o : Option g.row.C-Item.Denot). Gives ok o (stream n (took n))) w.in-Some.is f.0, f.1)))
-      | then-channels-e+in-default w ↦ subst₂ P (sym w.channels-is) (sym w.cores-is)
+      | then-channels-e+in_default w ↦ subst₂ P (sym w.channels-is) (sym w.cores-is)
           (gathered_lost w₀ t r₀ h₀ v n w₁ w.take.new.self (m.rules k₁) (m.held k₁) c.loop-e.invariant c.loop-e-test.true (w.if-channels-e.true ∙ c.get.ensures) w.take.ensures.laid w.take.ensures.kept
-          (λ ok before took put stream fl less. let f = w.take.ensures.flow ok before took put stream fl less in subst (λ (o : Option g.row.C-Item.Denot). Gives ok o (stream n (took n))) w.in-default.is f.0))
+          (λ ok before took put stream fl less. let f = w.take.ensures.flow ok before took put stream fl less in subst (λ (o : Option g.row.C-Item.Denot). Gives ok o (stream n (took n))) w.in_default.is f.0))
       | else-channels-e w ↦ subst₂ P (sym w.channels-is) (sym w.cores-is)
           (gathered_off w₀ t r₀ h₀ v n w₁ (m.rules k₁) (m.held k₁) c.loop-e.invariant (λ q. w.if-channels-e.false (q ∙ sym c.get.ensures)))
     ]

@@ -3,7 +3,7 @@ use Rattle.queues.specs.declared.channels.Channels.{Channels}
 use Rattle.queues.specs.Flows.{queue_at, by_block}
 use Rattle.queues.proofs.Starting.{Started, started_none, started_on, started_off, started_lost, started_all}
 use Rattle.queues.proofs.firing.start.Goals as goal
-use Rattle.queues.proofs.firing.start.Goals.{in-Some+then-blocks-index, in-Some+else-blocks-index, in-default}
+use Rattle.queues.proofs.firing.start.Goals.{in-Some+then-blocks-index, in-Some+else-blocks-index, in_default}
 
 pub loop-e-init : goal.loop-e-init
 loop-e-init g c = started_none c.args.channels.now c.args.table.now c.args.blocks.now (g.C.CoreSet.rules c.args.cores.now).reset c.requires
@@ -21,14 +21,14 @@ loop-e-preserved g c =
     elim c.match-new.branch [
       | in-Some+then-blocks-index w ↦ subst₂ P (sym w.channels-is) (sym w.table-is)
           (let at : w.index.result ≡ (queue_at w₁ n).source - 1 = w.index.ensures.same ∙ ap (λ x. x - 1) w.in-Some.ensures in
-          started_on w₀ t₀ bs reset n w₁ t₁ w.put.new.self w.put.new.table w.reset-item-item.result c.loop-e.invariant c.loop-e-test.true
+          started_on w₀ t₀ bs reset n w₁ t₁ w.put.new.self w.put.new.table w.reset_item-item.result c.loop-e.invariant c.loop-e-test.true
           (ap (λ x. get_or bs x false) (sym at) ∙ w.if-blocks-index.true)
-          (w.reset-item-item.ensures ∙ ap reset w.in-Some.ensures)
+          (w.reset_item-item.ensures ∙ ap reset w.in-Some.ensures)
           w.put.ensures.laid w.put.ensures.kept w.put.ensures.flow)
       | in-Some+else-blocks-index w ↦ subst₂ P (sym w.channels-is) (sym w.table-is)
           (let at : w.index.result ≡ (queue_at w₁ n).source - 1 = w.index.ensures.same ∙ ap (λ x. x - 1) w.in-Some.ensures in
           started_off w₀ t₀ bs reset n w₁ t₁ c.loop-e.invariant (ap (λ x. get_or bs x false) (sym at) ∙ w.if-blocks-index.false))
-      | in-default w ↦ subst₂ P (sym w.channels-is) (sym w.table-is) (started_lost w₀ t₀ bs reset n w₁ t₁ c.loop-e.invariant c.loop-e-test.true w.in-default.ensures)
+      | in_default w ↦ subst₂ P (sym w.channels-is) (sym w.table-is) (started_lost w₀ t₀ bs reset n w₁ t₁ c.loop-e.invariant c.loop-e-test.true w.in_default.ensures)
     ]
 
 pub returns : goal.returns

@@ -6,7 +6,7 @@ use Rattle.rating.proofs.extend.extend.Goals as goal
 pub loop-at-preserved : goal.loop-at-preserved
 loop-at-preserved c = (
   extend_more c.args.netlist.now c.channels-channels.result.now c.args.sizing.now c.loop-at.at c.loop-at.places _ _
-      c.channels-channels.ensures c.requires.sized (omega arith) (omega (arith, c.requires.room)) c.places-of.ensures.there c.places-of.ensures.back c.loop-at.invariant.0,
+      c.channels-channels.ensures c.requires.sized (omega arith) (omega (arith, c.requires.room)) c.places_of.ensures.there c.places_of.ensures.back c.loop-at.invariant.0,
   λ p l. two_more c.loop-at.places _ c.loop-at.at _ _ c.loop-at.invariant.1 p l,
 )
 

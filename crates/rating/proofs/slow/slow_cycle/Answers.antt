@@ -17,4 +17,4 @@ returns c =
     decided _ _ _ _ _ _ _ _ _ _
     (c.new-graph.ensures.modules ∙ ap length c.modules.ensures ∙ sym n.modules.ok.0)
     (c.new-graph.ensures.places ∙ front_is c.extend-count.result c.extend-count.new.places ∙ c.extend-count.ensures.places)
-    _ c.slow-cycle.ensures
+    _ c.slow_cycle.ensures

@@ -13,10 +13,10 @@ new-graph-requires c =
       fit = fits_as n c.args.sizing.now _ _ (ap length c.modules.ensures ∙ sym n.modules.ok.0) (front_is c.extend-count.result c.extend-count.new.places ∙ c.extend-count.ensures.places) c.requires.sized;
     }
 
-pub tokens-on-tokens-requires : goal.tokens-on-tokens-requires
-tokens-on-tokens-requires c =
+pub tokens_on-tokens-requires : goal.tokens_on-tokens-requires
+tokens_on-tokens-requires c =
     let g = c.new-graph.result in
     let n = c.args.netlist.now in
     let same : g.modules ≡ modules n = c.new-graph.ensures.modules ∙ ap length c.modules.ensures ∙ sym n.modules.ok.0 in
-    let r = part g.modules g.places.now c.args.target.0 c.args.target.1 c.args.cycle.now c.slow-cycle.new.cycle c.in-ok-length.length _ c.in-ok-length.ensures.0 g.some.1 (omega (arith, c.requires.room, c.slow-cycle.auto.cycle)) (sub-zero c.in-ok-length.length) in
+    let r = part g.modules g.places.now c.args.target.0 c.args.target.1 c.args.cycle.now c.slow_cycle.new.cycle c.in_ok-length.length _ c.in_ok-length.ensures.0 g.some.1 (omega (arith, c.requires.room, c.slow_cycle.auto.cycle)) (sub-zero c.in_ok-length.length) in
     record { inside = r.0; short = r.1 }

@@ -13,7 +13,7 @@ loop-at-preserved c =
     let k : i + 1 - 1 ≡ i = omega arith in
     let x : get_or xs i 0 ≡ get_or xs (i + 1 - 1) 0 = ap (λ (j : ℕ). get_or xs j 0) (sym k) in
     lines_more (λ k x. count_line xs k (entry_of x)) c.args.modules.now i m [] _ _ _ (omega arith) c.index-modules-at.is
-    c.loop-at.invariant (c.as-str.ensures.value ∙ c.in-ok-line.ensures ∙ ap (λ (y : ℕ). counted y (i + 1) (entry_of m)) x) c.in-ok-push-str.ensures.bytes
+    c.loop-at.invariant (c.as_str.ensures.value ∙ c.in_ok-line.ensures ∙ ap (λ (y : ℕ). counted y (i + 1) (entry_of m)) x) c.in_ok-push_str.ensures.bytes
 
 pub returns : goal.returns
 returns c = let all : take c.loop-at.at c.args.modules.now ≡ c.args.modules.now = take_all _ _ (omega arith) in rw all at c.loop-at.invariant

@@ -7,11 +7,11 @@ pub returns-in-Err-Refused : goal.returns-in-Err-Refused
 returns-in-Err-Refused c =
     made_of c.format.result _ _ c.format.ensures.ok (λ s e. refused_text _ c.args.file.now _ 192 c.in-Err-Refused.refusal (omega arith) (search rules) (e ∙ ap refused c.in-Err-Refused.refusal-is))
 
-pub steps-text-requires : goal.steps-text-requires
-steps-text-requires c =
-    sized c.args.file.now c.in-ok-netlist.netlist c.read.new.netlist _ c.read.new.sizing (search rules) (search rules) c.in-Ok.ensures _ (ap length c.channels-channels.ensures)
+pub steps_text-requires : goal.steps_text-requires
+steps_text-requires c =
+    sized c.args.file.now c.in_ok-netlist.netlist c.read.new.netlist _ c.read.new.sizing (search rules) (search rules) c.in-Ok.ensures _ (ap length c.channels-channels.ensures)
 
 pub returns : goal.returns
 returns c =
-    made_of c.steps-text.result _ _ c.steps-text.ensures
-    (λ s h. file_text c.args.file.now c.in-ok-netlist.netlist c.read.new.netlist _ c.read.new.sizing (search rules) (search rules) c.in-Ok.ensures _ (ap length c.channels-channels.ensures) _ _ h)
+    made_of c.steps_text.result _ _ c.steps_text.ensures
+    (λ s h. file_text c.args.file.now c.in_ok-netlist.netlist c.read.new.netlist _ c.read.new.sizing (search rules) (search rules) c.in-Ok.ensures _ (ap length c.channels-channels.ensures) _ _ h)

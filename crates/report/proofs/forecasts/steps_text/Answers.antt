@@ -13,7 +13,7 @@ returns-in-Ok-forecast c =
     let t = c.args.steps in
     let same = c.in-Ok.ensures.0 in
     let told = c.in-Ok-forecast.ensures in
-    made_of c.counts-text.result _ _ c.counts-text.ensures
+    made_of c.counts_text.result _ _ c.counts_text.ensures
     (λ s e. inl (
       subst Passed same c.in-Ok.ensures.1,
       subst (λ (i : Netlist). forecast_fault i qs t 64 ≡ None) same told.0,

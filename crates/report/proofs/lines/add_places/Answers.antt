@@ -9,7 +9,7 @@ loop-place-preserved c =
     let places = c.args.places.now in
     let i = c.loop-place.place-index in
     lines_more spaced places i (get_or places i 0) _ _ _ _ (omega arith) (get_or_default places i _ _ (omega arith))
-    c.loop-place.invariant (c.as-str.ensures.value ∙ c.in-ok-word.ensures.ok) c.in-ok-push-str.ensures.bytes
+    c.loop-place.invariant (c.as_str.ensures.value ∙ c.in_ok-word.ensures.ok) c.in_ok-push_str.ensures.bytes
 
 pub returns : goal.returns
 returns c = let all : take c.loop-place.place-index c.args.places.now ≡ c.args.places.now = take_all _ _ (omega arith) in rw all at c.loop-place.invariant

@@ -12,7 +12,7 @@ loop-at-preserved c =
     let k : i + 1 - 1 ≡ i = omega arith in
     let size : get_or before i 0 ≡ get_or before (i + 1 - 1) 0 = ap (λ (j : ℕ). get_or before j 0) (sym k) in
     lines_more (deepened_line before) after i (get_or after i 0) _ _ _ _ (omega arith) (get_or_default after i _ _ (omega arith))
-    c.loop-at.invariant (c.as-str.ensures.value ∙ c.in-ok-line.ensures ∙ ap (λ (q : ℕ). deepened (i + 1) q (get_or after i 0)) size) c.in-ok-push-str.ensures.bytes
+    c.loop-at.invariant (c.as_str.ensures.value ∙ c.in_ok-line.ensures ∙ ap (λ (q : ℕ). deepened (i + 1) q (get_or after i 0)) size) c.in_ok-push_str.ensures.bytes
 
 pub returns : goal.returns
 returns c = let all : take c.loop-at.at c.args.after.now ≡ c.args.after.now = take_all _ _ (omega arith) in rw all at c.loop-at.invariant

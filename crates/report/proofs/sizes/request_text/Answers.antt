@@ -9,12 +9,12 @@ returns-in-Err-size c =
     made_of c.format-in-Err-size.result _ _ c.format-in-Err-size.ensures.ok
     (λ s e. inr (inr (c.in-Err-size.refusal, refused_as_it_was _ n c.args.request _ _ _ c.in-Ok.ensures.0 (ap length c.channels-channels.ensures ∙ sym n.channels.ok.0) (search rules) c.requires.same _ _ c.in-Err-size.ensures, e)))
 
-pub checked-text-requires : goal.checked-text-requires
-checked-text-requires c =
+pub checked_text-requires : goal.checked_text-requires
+checked_text-requires c =
     record { passed = c.in-Ok.ensures.1; sized = found_sized _ _ _ _ _ _ _ _ c.in-Ok-size.ensures }
 
 pub returns : goal.returns
 returns c =
     let n = c.args.netlist.now in
     inl (sized_text _ n c.args.request _ _ _ c.in-Ok.ensures.0 (ap length c.channels-channels.ensures ∙ sym n.channels.ok.0) (search rules) c.requires.same _ _ _ _ _ _ _
-    c.in-Ok-size.ensures c.in-ok-rating.ensures c.in-ok-text.ensures.ok c.in-ok-add-deepened.ensures c.as-str.ensures.value c.in-ok-push-str.ensures.bytes)
+    c.in-Ok-size.ensures c.in_ok-rating.ensures c.in_ok-text.ensures.ok c.in_ok-add_deepened.ensures c.as_str.ensures.value c.in_ok-push_str.ensures.bytes)

@@ -7,14 +7,14 @@ pub returns-in-Err-Refused : goal.returns-in-Err-Refused
 returns-in-Err-Refused c =
     made_of c.format.result _ _ c.format.ensures.ok (λ s e. refused_text _ c.args.file.now _ 192 c.in-Err-Refused.refusal (omega arith) (search rules) (e ∙ ap refused c.in-Err-Refused.refusal-is))
 
-pub request-text-requires : goal.request-text-requires
-request-text-requires c =
+pub request_text-requires : goal.request_text-requires
+request_text-requires c =
     record {
-      tested = sized c.args.file.now c.in-ok-netlist.netlist c.read.new.netlist _ c.read.new.sizing (search rules) (search rules) c.in-Ok.ensures _ (ap length c.channels-channels.ensures);
+      tested = sized c.args.file.now c.in_ok-netlist.netlist c.read.new.netlist _ c.read.new.sizing (search rules) (search rules) c.in-Ok.ensures _ (ap length c.channels-channels.ensures);
       same = refl;
     }
 
 pub returns : goal.returns
 returns c =
-    made_of c.request-text.result _ _ c.request-text.ensures
-    (λ s h. file_text c.args.file.now c.in-ok-netlist.netlist c.read.new.netlist _ c.read.new.sizing (search rules) (search rules) c.in-Ok.ensures _ (ap length c.channels-channels.ensures) _ _ h)
+    made_of c.request_text.result _ _ c.request_text.ensures
+    (λ s h. file_text c.args.file.now c.in_ok-netlist.netlist c.read.new.netlist _ c.read.new.sizing (search rules) (search rules) c.in-Ok.ensures _ (ap length c.channels-channels.ensures) _ _ h)

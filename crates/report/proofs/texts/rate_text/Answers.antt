@@ -7,11 +7,11 @@ pub returns-in-Err-Refused : goal.returns-in-Err-Refused
 returns-in-Err-Refused c =
     made_of c.format.result _ _ c.format.ensures.ok (λ s e. refused_text _ c.args.file.now _ 192 c.in-Err-Refused.refusal (omega arith) (search rules) (e ∙ ap refused c.in-Err-Refused.refusal-is))
 
-pub netlist-text-requires : goal.netlist-text-requires
-netlist-text-requires c =
-    sized c.args.file.now c.in-ok-netlist.netlist c.read.new.netlist _ c.read.new.sizing (search rules) (search rules) c.in-Ok.ensures _ (ap length c.channels-channels.ensures)
+pub netlist_text-requires : goal.netlist_text-requires
+netlist_text-requires c =
+    sized c.args.file.now c.in_ok-netlist.netlist c.read.new.netlist _ c.read.new.sizing (search rules) (search rules) c.in-Ok.ensures _ (ap length c.channels-channels.ensures)
 
 pub returns : goal.returns
 returns c =
-    made_of c.netlist-text.result _ _ c.netlist-text.ensures
-    (λ s h. file_text c.args.file.now c.in-ok-netlist.netlist c.read.new.netlist _ c.read.new.sizing (search rules) (search rules) c.in-Ok.ensures _ (ap length c.channels-channels.ensures) _ _ h)
+    made_of c.netlist_text.result _ _ c.netlist_text.ensures
+    (λ s h. file_text c.args.file.now c.in_ok-netlist.netlist c.read.new.netlist _ c.read.new.sizing (search rules) (search rules) c.in-Ok.ensures _ (ap length c.channels-channels.ensures) _ _ h)

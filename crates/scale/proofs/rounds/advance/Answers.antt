@@ -9,17 +9,17 @@ use Rattle.scale.proofs.rounds.advance.Goals as goal
 row_within : (n u m : ℕ) → m ≡ n * n → u < n → u * n + n ≤ m
 row_within n u m e l = omega (arith, mul-add-lt u n (n - 1) n l (omega arith))
 
-pub overflow-mul-row : goal.overflow-mul-row
-overflow-mul-row g c = omega (arith, row_within _ _ _ c.requires.weights c.loop-u-test.true)
+pub overflow_mul-row : goal.overflow_mul-row
+overflow_mul-row g c = omega (arith, row_within _ _ _ c.requires.weights c.loop-u-test.true)
 
-pub overflow-add-row : goal.overflow-add-row
-overflow-add-row g c = omega (arith, row_within _ _ _ c.requires.weights c.loop-u-test.true)
+pub overflow_add-row : goal.overflow_add-row
+overflow_add-row g c = omega (arith, row_within _ _ _ c.requires.weights c.loop-u-test.true)
 
-pub offset-bounds-weights-row : goal.offset-bounds-weights-row
-offset-bounds-weights-row g c = omega (arith, row_within _ _ _ c.requires.weights c.loop-u-test.true)
+pub offset_bounds-weights-row : goal.offset_bounds-weights-row
+offset_bounds-weights-row g c = omega (arith, row_within _ _ _ c.requires.weights c.loop-u-test.true)
 
-pub slice-bounds-depart-end : goal.slice-bounds-depart-end
-slice-bounds-depart-end g c = row_within _ _ _ c.requires.weights c.loop-u-test.true
+pub slice_bounds-depart-end : goal.slice_bounds-depart-end
+slice_bounds-depart-end g c = row_within _ _ _ c.requires.weights c.loop-u-test.true
 
 pub loop-u-preserved : goal.loop-u-preserved
 loop-u-preserved g c = λ v l.

@@ -20,8 +20,8 @@ lift-requires c =
       under = c.loop-need.invariant.1;
     }
 
-pub overflow-add-need : goal.overflow-add-need
-overflow-add-need c =
+pub overflow_add-need : goal.overflow_add-need
+overflow_add-need c =
     let n = c.args.aim.netlist.now in
     let slow = c.in-Some.slow in
     omega (

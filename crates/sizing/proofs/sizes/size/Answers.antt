@@ -14,7 +14,7 @@ fewest-requires c =
     let caps = c.args.caps.now in
     let m = c.args.allowance in
     let sizing = c.args.sizing.now in
-    let fault = c.in-ok-test-request.ensures in
+    let fault = c.in_ok-test_request.ensures in
     let same : e ≡ channels n = ap length c.channels-channels.ensures ∙ sym n.channels.ok.0 in
     let few : e ≤ 192 = omega (arith, n.few) in
     let long : length sizing ≡ e = request_long e a b caps m sizing fault in
@@ -25,17 +25,17 @@ fewest-requires c =
       space = front_long _ _ _ (omega arith) long;
     }
 
-pub returns-in-default : goal.returns-in-default
-returns-in-default c =
+pub returns-in_default : goal.returns-in_default
+returns-in_default c =
     let n = c.netlist-netlist.result.now in
     let a = c.args.target.0 in
     let b = c.args.target.1 in
     let caps = c.args.caps.now in
     let m = c.args.allowance in
     let sizing = c.args.sizing.now in
-    let p = of_checked (length c.channels-channels.result.now) a b caps m sizing c.in-ok-test-request.ensures n _ c.netlist-netlist.ensures
-    (ap length c.channels-channels.ensures ∙ sym n.channels.ok.0) (λ (x : Netlist). Unreached x a b caps m sizing) c.in-default.ensures.1 in
-    (c.in-default.ensures.0, inr (p.0, refl, p.1))
+    let p = of_checked (length c.channels-channels.result.now) a b caps m sizing c.in_ok-test_request.ensures n _ c.netlist-netlist.ensures
+    (ap length c.channels-channels.ensures ∙ sym n.channels.ok.0) (λ (x : Netlist). Unreached x a b caps m sizing) c.in_default.ensures.1 in
+    (c.in_default.ensures.0, inr (p.0, refl, p.1))
 
 pub returns : goal.returns
 returns c =
@@ -45,5 +45,5 @@ returns c =
     let caps = c.args.caps.now in
     let m = c.args.allowance in
     let sizing = c.args.sizing.now in
-    of_checked (length c.channels-channels.result.now) a b caps m sizing c.in-ok-test-request.ensures n _ c.netlist-netlist.ensures
+    of_checked (length c.channels-channels.result.now) a b caps m sizing c.in_ok-test_request.ensures n _ c.netlist-netlist.ensures
     (ap length c.channels-channels.ensures ∙ sym n.channels.ok.0) (λ (x : Netlist). Fewest x a b caps m sizing c.in-Some.slots c.fewest.new.sizing) c.in-Some.ensures

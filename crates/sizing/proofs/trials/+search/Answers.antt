@@ -5,20 +5,20 @@ use Rattle.sizing.proofs.Readying.{ready_raised}
 use Rattle.sizing.proofs.Tables.{NoneAt, now_back, now_capped, now_reached, now_tried, own_candidate}
 use Rattle.sizing.proofs.Trying.{none_along, none_without}
 use Rattle.sizing.proofs.trials.+search.Goals as goal
-use Rattle.sizing.proofs.trials.+search.Goals.{in-Some-channel-with-room+else-search, in-default-channel-with-room}
+use Rattle.sizing.proofs.trials.+search.Goals.{in-Some-channel_with_room+else-search, in_default-channel_with_room}
 
-pub returns-in-default : goal.returns-in-default
-returns-in-default t c =
+pub returns-in_default : goal.returns-in_default
+returns-in_default t c =
     let aim = c.args.aim in
-    record { kept = refl; verdict = own_candidate (Reaching aim.netlist.now aim.target.0 aim.target.1) _ _ _ _ c.copy-from-slice.ensures.after c.requires.ready.under c.in-default.ensures }
+    record { kept = refl; verdict = own_candidate (Reaching aim.netlist.now aim.target.0 aim.target.1) _ _ _ _ c.copy_from_slice.ensures.after c.requires.ready.under c.in_default.ensures }
 
 pub returns-then-slots-eq0 : goal.returns-then-slots-eq0
 returns-then-slots-eq0 t c =
     let covers = found_covers _ _ _ _ _ c.requires.ready _ _ _ c.in-Some.ensures in
     record { kept = refl; verdict = (refl, none_without _ _ _ _ _ _ _ covers c.if-slots-eq0.true) }
 
-pub channel-with-room-requires : goal.channel-with-room-requires
-channel-with-room-requires t c =
+pub channel_with_room-requires : goal.channel_with_room-requires
+channel_with_room-requires t c =
     let covers = found_covers _ _ _ _ _ c.requires.ready _ _ _ c.in-Some.ensures in
     record {
       within = omega (arith, covers.places c.loop-place.place-index c.loop-place-test.true, c.loop-place.auto.sizes);
@@ -28,17 +28,17 @@ channel-with-room-requires t c =
 pub raise-requires : goal.raise-requires
 raise-requires t c =
     let covers = found_covers _ _ _ _ _ c.requires.ready _ _ _ c.in-Some.ensures in
-    let room = c.in-Some-channel-with-room.ensures in
+    let room = c.in-Some-channel_with_room.ensures in
     record {
       within = omega (arith, covers.places c.loop-place.place-index c.loop-place-test.true, c.loop-place.auto.sizes, room.0);
-      fits = omega (arith, room.1, c.requires.ready.low c.in-Some-channel-with-room.channel);
+      fits = omega (arith, room.1, c.requires.ready.low c.in-Some-channel_with_room.channel);
     }
 
 pub search-requires : goal.search-requires
 search-requires t c =
     let covers = found_covers _ _ _ _ _ c.requires.ready _ _ _ c.in-Some.ensures in
-    let room = c.in-Some-channel-with-room.ensures in
-    let h : c.in-Some-channel-with-room.channel < length c.loop-place.sizes =
+    let room = c.in-Some-channel_with_room.ensures in
+    let h : c.in-Some-channel_with_room.channel < length c.loop-place.sizes =
     omega (arith, covers.places c.loop-place.place-index c.loop-place-test.true, c.loop-place.auto.sizes, room.0) in (
       omega (arith, c.decreases, c.if-slots-eq0.false),
       (
@@ -56,18 +56,18 @@ search-requires t c =
 pub drop-guard-requires : goal.drop-guard-requires
 drop-guard-requires t c =
     let covers = found_covers _ _ _ _ _ c.requires.ready _ _ _ c.in-Some.ensures in
-    omega (arith, covers.places c.loop-place.place-index c.loop-place-test.true, c.loop-place.auto.sizes, c.raise.auto.sizes, c.in-Some-channel-with-room.ensures.0, ap length c.if-search.ensures.kept)
+    omega (arith, covers.places c.loop-place.place-index c.loop-place-test.true, c.loop-place.auto.sizes, c.raise.auto.sizes, c.in-Some-channel_with_room.ensures.0, ap length c.if-search.ensures.kept)
 
-pub drop-guard-requires-in-Some-channel-with-room : goal.drop-guard-requires-in-Some-channel-with-room
-drop-guard-requires-in-Some-channel-with-room t c =
+pub drop-guard-requires-in-Some-channel_with_room : goal.drop-guard-requires-in-Some-channel_with_room
+drop-guard-requires-in-Some-channel_with_room t c =
     let covers = found_covers _ _ _ _ _ c.requires.ready _ _ _ c.in-Some.ensures in
-    omega (arith, covers.places c.loop-place.place-index c.loop-place-test.true, c.loop-place.auto.sizes, c.raise.auto.sizes, c.in-Some-channel-with-room.ensures.0, ap length c.if-search.ensures.kept)
+    omega (arith, covers.places c.loop-place.place-index c.loop-place-test.true, c.loop-place.auto.sizes, c.raise.auto.sizes, c.in-Some-channel_with_room.ensures.0, ap length c.if-search.ensures.kept)
 
 pub returns-then-search : goal.returns-then-search
 returns-then-search t c =
     let covers = found_covers _ _ _ _ _ c.requires.ready _ _ _ c.in-Some.ensures in
-    let h : c.in-Some-channel-with-room.channel < length c.loop-place.sizes =
-    omega (arith, covers.places c.loop-place.place-index c.loop-place-test.true, c.loop-place.auto.sizes, c.in-Some-channel-with-room.ensures.0) in
+    let h : c.in-Some-channel_with_room.channel < length c.loop-place.sizes =
+    omega (arith, covers.places c.loop-place.place-index c.loop-place-test.true, c.loop-place.auto.sizes, c.in-Some-channel_with_room.ensures.0) in
     record {
       kept = now_back _ _ _ c.args.aim.caps.now c.args.slots _ c.loop-place.invariant.0 c.raise.ensures.after _ _ _ c.raise.ensures.old c.if-search.ensures.kept c.drop-guard.ensures;
       verdict = (
@@ -82,19 +82,19 @@ loop-place-preserved t c =
     let place = covers.places c.loop-place.place-index c.loop-place-test.true in
     let aim = c.args.aim in
     let Good = Reaching aim.netlist.now aim.target.0 aim.target.1 in
-    elim c.match-channel-with-room.branch [
-      | in-Some-channel-with-room+else-search w ↦
-          let room = w.in-Some-channel-with-room.ensures in
-          let h : w.in-Some-channel-with-room.channel < length c.loop-place.sizes = omega (arith, place, c.loop-place.auto.sizes, room.0) in
+    elim c.match-channel_with_room.branch [
+      | in-Some-channel_with_room+else-search w ↦
+          let room = w.in-Some-channel_with_room.ensures in
+          let h : w.in-Some-channel_with_room.channel < length c.loop-place.sizes = omega (arith, place, c.loop-place.auto.sizes, room.0) in
           let none = now_tried _ _ _ _ _ _ c.loop-place.invariant.0 w.raise.ensures.after Good h w.if-search.ensures.verdict.1 in (
-            w.sizes-is ∙ now_back _ _ _ aim.caps.now c.args.slots _ c.loop-place.invariant.0 w.raise.ensures.after _ _ _ w.raise.ensures.old w.if-search.ensures.kept w.drop-guard-in-Some-channel-with-room.ensures,
+            w.sizes-is ∙ now_back _ _ _ aim.caps.now c.args.slots _ c.loop-place.invariant.0 w.raise.ensures.after _ _ _ w.raise.ensures.old w.if-search.ensures.kept w.drop-guard-in-Some-channel_with_room.ensures,
             w.answer-is ∙ w.if-search.ensures.verdict.0 ∙ c.loop-place.invariant.1,
             below_more _ _ c.loop-place.invariant.2 (λ back. subst (NoneAt Good c.args.sizes.now aim.caps.now c.args.slots) room.0 none),
           )
-      | in-default-channel-with-room w ↦ (
+      | in_default-channel_with_room w ↦ (
         w.sizes-is ∙ c.loop-place.invariant.0,
         w.answer-is ∙ c.loop-place.invariant.1,
-        below_more _ _ c.loop-place.invariant.2 (λ back. now_capped _ _ _ _ _ c.loop-place.invariant.0 Good (w.in-default-channel-with-room.ensures back)),
+        below_more _ _ c.loop-place.invariant.2 (λ back. now_capped _ _ _ _ _ c.loop-place.invariant.0 Good (w.in_default-channel_with_room.ensures back)),
       )
     ]
 

@@ -4,17 +4,17 @@ use Rattle.trace_text.specs.Lines.{answer_lines}
 use Rattle.trace_text.proofs.Answering.{answers_more, calls_step}
 use Rattle.trace_text.proofs.answers.add_answers.Goals as goal
 
-pub split-at-requires : goal.split-at-requires
-split-at-requires c =
+pub split_at-requires : goal.split_at-requires
+split_at-requires c =
     omega (arith, c.count.ensures, calls_step c.args.commands.now c.loop-command.command-index (omega arith), c.loop-command.invariant.1)
 
 pub loop-command-preserved : goal.loop-command-preserved
 loop-command-preserved c =
     let xs = c.loop-command.rest.now in (
       answers_more c.args.commands.now xs _ _ c.loop-command.command-index _ _ _ _ (omega arith)
-          (c.split-at.ensures.front ∙ ap (λ n. take n xs) c.count.ensures) (c.split-at.ensures.back ∙ ap (λ n. drop n xs) c.count.ensures)
-          (c.as-str.ensures.value ∙ c.in-ok-line.ensures) c.in-ok-push-str.ensures.bytes c.loop-command.invariant.0,
-      omega (arith, c.split-at.ensures.back_len, c.count.ensures, calls_step c.args.commands.now c.loop-command.command-index (omega arith), c.loop-command.invariant.1),
+          (c.split_at.ensures.front ∙ ap (λ n. take n xs) c.count.ensures) (c.split_at.ensures.back ∙ ap (λ n. drop n xs) c.count.ensures)
+          (c.as_str.ensures.value ∙ c.in_ok-line.ensures) c.in_ok-push_str.ensures.bytes c.loop-command.invariant.0,
+      omega (arith, c.split_at.ensures.back_len, c.count.ensures, calls_step c.args.commands.now c.loop-command.command-index (omega arith), c.loop-command.invariant.1),
     )
 
 pub returns : goal.returns

@@ -3,8 +3,8 @@ use Rattle.std.proofs.lemmas.List.{at_drop_all, at_drop_more}
 use Rattle.trace_text.specs.Lines.{no_exchange, outcome_from, refuses}
 use Rattle.trace_text.proofs.answers.outcome.Goals as goal
 
-pub returns-then-is-refused : goal.returns-then-is-refused
-returns-then-is-refused c =
+pub returns-then-is_refused : goal.returns-then-is_refused
+returns-then-is_refused c =
     let xs = c.args.own.now in
     let i = c.loop-exchange.exchange-index in
     let yes' : refuses (get_or xs i no_exchange).answer ≡ true = search rules in

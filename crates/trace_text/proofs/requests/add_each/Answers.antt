@@ -8,7 +8,7 @@ pub loop-number-init : goal.loop-number-init
 loop-number-init c = append-nil (vec_items c.args.list.now)
 
 pub loop-number-preserved : goal.loop-number-preserved
-loop-number-preserved c = one_question (vec_items c.args.list.now) (vec_items c.loop-number.list) _ (ask_for c.args.question) c.loop-number.number c.ask.result c.ask.ensures c.in-ok-add.ensures c.loop-number.invariant
+loop-number-preserved c = one_question (vec_items c.args.list.now) (vec_items c.loop-number.list) _ (ask_for c.args.question) c.loop-number.number c.ask.result c.ask.ensures c.in_ok-add.ensures c.loop-number.invariant
 
 pub returns : goal.returns
 returns c =

@@ -6,5 +6,5 @@ use Rattle.trace_text.proofs.requests.requests_of.Goals as goal
 
 pub returns : goal.returns
 returns c =
-    four (vec_items c.add-all.new.list) (vec_items c.add-each.new.list) (vec_items c.add-each-2.new.list) (vec_items c.add-each-3.new.list) (vec_items c.new-list.result) c.args.commands.now
-    (ask_for Firings) (ask_for Fill) (ask_for Front) c.args.modules c.args.channels c.new-list.ensures.items c.in-ok-add-all.ensures c.in-ok-add-each.ensures c.in-ok-add-each-2.ensures c.in-ok-add-each-3.ensures
+    four (vec_items c.add_all.new.list) (vec_items c.add_each.new.list) (vec_items c.add_each-2.new.list) (vec_items c.add_each-3.new.list) (vec_items c.new-list.result) c.args.commands.now
+    (ask_for Firings) (ask_for Fill) (ask_for Front) c.args.modules c.args.channels c.new-list.ensures.items c.in_ok-add_all.ensures c.in_ok-add_each.ensures c.in_ok-add_each-2.ensures c.in_ok-add_each-3.ensures

@@ -13,7 +13,7 @@ loop-at-preserved c =
     let k : i + 1 - 1 ≡ i = omega arith in
     let same : get_or xs i no_exchange ≡ get_or xs (i + 1 - 1) no_exchange = ap (λ (j : ℕ). get_or xs j no_exchange) (sym k) in
     lines_more (channel_line xs) c.args.fills.now i x _ _ _ _ (omega arith) (get_or_default c.args.fills.now i _ _ (omega arith))
-    c.loop-at.invariant (c.as-str.ensures.value ∙ c.in-ok-line.ensures ∙ ap (λ (y : Exchange ℕ). channel_of (i + 1) x y) same) c.in-ok-push-str.ensures.bytes
+    c.loop-at.invariant (c.as_str.ensures.value ∙ c.in_ok-line.ensures ∙ ap (λ (y : Exchange ℕ). channel_of (i + 1) x y) same) c.in_ok-push_str.ensures.bytes
 
 pub returns : goal.returns
 returns c = let all : take c.loop-at.at c.args.fills.now ≡ c.args.fills.now = take_all _ _ (omega arith) in rw all at c.loop-at.invariant

@@ -14,7 +14,7 @@ loop-at-preserved c =
     let k : i + 1 - 1 ≡ i = omega arith in
     let same : get_or xs i no_exchange ≡ get_or xs (i + 1 - 1) no_exchange = ap (λ (j : ℕ). get_or xs j no_exchange) (sym k) in
     lines_more (λ k x. fired_line xs k (entry_of x)) c.args.modules.now i m _ _ _ _ (omega arith) c.index-modules-at.is
-    c.loop-at.invariant (c.as-str.ensures.value ∙ c.in-ok-line.ensures ∙ ap (λ (x : Exchange ℕ). fired_of (i + 1) (entry_of m) x) same) c.in-ok-push-str.ensures.bytes
+    c.loop-at.invariant (c.as_str.ensures.value ∙ c.in_ok-line.ensures ∙ ap (λ (x : Exchange ℕ). fired_of (i + 1) (entry_of m) x) same) c.in_ok-push_str.ensures.bytes
 
 pub returns : goal.returns
 returns c = let all : take c.loop-at.at c.args.modules.now ≡ c.args.modules.now = take_all _ _ (omega arith) in rw all at c.loop-at.invariant

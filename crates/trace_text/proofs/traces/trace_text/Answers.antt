@@ -9,5 +9,5 @@ returns-in-Err-Refused c =
 
 pub returns : goal.returns
 returns c =
-    made_of c.netlist-text.result _ _ c.netlist-text.ensures
-    (λ s h. file_text c.args.file.now c.in-ok-netlist.netlist c.read.new.netlist _ c.read.new.sizing (search rules) (search rules) c.in-Ok.ensures _ (ap length c.channels-channels.ensures) _ _ h)
+    made_of c.netlist_text.result _ _ c.netlist_text.ensures
+    (λ s h. file_text c.args.file.now c.in_ok-netlist.netlist c.read.new.netlist _ c.read.new.sizing (search rules) (search rules) c.in-Ok.ensures _ (ap length c.channels-channels.ensures) _ _ h)

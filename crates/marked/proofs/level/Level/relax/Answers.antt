@@ -5,8 +5,8 @@ use Rattle.marked.specs.Rounds.{place_of, value}
 use Rattle.marked.proofs.Relaxing.{ranges, lower, keep}
 use Rattle.marked.proofs.level.Level.relax.Goals as goal
 
-pub overflow-add-offered : goal.overflow-add-offered
-overflow-add-offered c = omega (arith, ints, ranges c.args.weighed c.args.old.now c.requires.low c.args.i c.requires.within)
+pub overflow_add-offered : goal.overflow_add-offered
+overflow_add-offered c = omega (arith, ints, ranges c.args.weighed c.args.old.now c.requires.low c.args.i c.requires.within)
 
 pub returns-then-offered-self : goal.returns-then-offered-self
 returns-then-offered-self c =

@@ -6,7 +6,7 @@ use Rattle.marked.proofs.trail.Trail.step.Goals as goal
 
 pub unreachable-requires : goal.unreachable-requires
 unreachable-requires c =
-    false≢true (sym (ap is_some c.in-default.is) ∙ c.requires.back.lowered c.args.k (omega arith) c.requires.within c.requires.some)
+    false≢true (sym (ap is_some c.in_default.is) ∙ c.requires.back.lowered c.args.k (omega arith) c.requires.within c.requires.some)
 
 pub bounds-weighed-p : goal.bounds-weighed-p
 bounds-weighed-p c =

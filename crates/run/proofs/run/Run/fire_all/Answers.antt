@@ -6,7 +6,7 @@ use Rattle.queues.specs.Stands.{Stands}
 use Rattle.queues.proofs.Replacing.{laid_of, sounds_of}
 use Rattle.run.proofs.Burst.{Burst, burst_none, burst_on, burst_off, burst_all}
 use Rattle.run.proofs.run.Run.fire_all.Goals as goal
-use Rattle.run.proofs.run.Run.fire_all.Goals.{then-firing-i+in-Some, then-firing-i+in-default, else-firing-i}
+use Rattle.run.proofs.run.Run.fire_all.Goals.{then-firing-i+in-Some, then-firing-i+in_default, else-firing-i}
 
 pub loop-i-init : goal.loop-i-init
 loop-i-init g c =
@@ -57,7 +57,7 @@ loop-i-preserved g c =
           → Stands ok before chip (bump f x) (puts chip.net (bump f x)) w.fire.new.channels (m.rules w.fire.new.cores) (m.held w.fire.new.cores) w.fire.new.table in
           let R : Run g.row.C.Denot → List g.row.C-Item.Denot → Type 0 = λ s t. Stands ok before chip (bump f (n + 1)) (puts chip.net (bump f (n + 1))) s.inner.channels (m.rules s.cores) (m.held s.cores) t in
           subst₂ R (sym w.self-is) (sym w.table-is) (subst Q w.in-Some.ensures (w.fire.ensures.told ok before chip f st) blk en)))
-      | then-firing-i+in-default w ↦ absurd (w.in-default.ensures (omega arith) (omega (arith, c.loop-i-test.true, c.args.self.now.inner.modules_high)))
+      | then-firing-i+in_default w ↦ absurd (w.in_default.ensures (omega arith) (omega (arith, c.loop-i-test.true, c.args.self.now.inner.modules_high)))
       | else-firing-i w ↦ subst₂ P (sym w.self-is) (sym w.table-is)
           (burst_off s₀.inner (m.rules s₀.cores) (m.held s₀.cores) t₀ go n s₁.inner (m.rules s₁.cores) (m.held s₁.cores) t₁ c.loop-i.invariant c.loop-i-test.true w.if-firing-i.false)
     ]

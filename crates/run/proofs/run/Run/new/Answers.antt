@@ -41,4 +41,4 @@ returns g c = λ table.
     let fits = lists_fit n qs c.args.rating.sizing.now cs lends c.sizing.ensures c.requires.sized in
     let made = c.lay-entries.ensures in
     told_new n c.netlist-netlist.result.now qs c.args.rating.sizing.now cs c.modules.result.now (m.rules c.args.cores) (m.held c.args.cores) _ table
-    c.requires.passed c.netlist-netlist.ensures c.sizing.ensures lends c.modules.ensures fits.1 made.count made.laid refl c.blocks-of.ensures refl refl refl refl
+    c.requires.passed c.netlist-netlist.ensures c.sizing.ensures lends c.modules.ensures fits.1 made.count made.laid refl c.blocks_of.ensures refl refl refl refl
