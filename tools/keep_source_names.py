@@ -12,7 +12,8 @@ import re
 from respell import files, read
 
 WORDS = """overflow_add overflow_sub overflow_mul overflow_cast overflow_shl overflow_shr overflow_neg overflow_step nonzero_div nonzero_rem
-slice_bounds offset_bounds in_default in_ok in_err type_inv yielded_by""".split()
+slice_bounds offset_bounds in_default in_ok in_err type_inv yielded_by invariant_of from_residual into_iter as_slice as_mut_slice
+deref_mut slice_known""".split()
 CITED = re.compile(r"(?<=\.)[^\s(){}\[\]:;,.|⌜⌝∷\\λ\"]*-[^\s(){}\[\]:;,.|⌜⌝∷\\λ\"]*")
 GOAL = re.compile(r"^(?:abbrev )?(?:pub )?(\S+-\S+) : (?:goal|given|need)\.")
 PLACES = re.compile(r"^use \S+\.(?:Goals|Given)\.\{([^}]*)\}", re.M)

@@ -1,5 +1,5 @@
 -- What was gathered, and what is coming.
-use Rattle.std.proofs.Common.{◌≡◌, ℕ, ◌+◌, ◌-◌, ◌<◌, ◌≤◌, List, [], ◌∷◌, ◌++◌, map, length, Some, Ok, Err, string_bytes, Option, Result, refl, subst, append_assoc, append-nil, arith, length-append, MutBor}
+use Rattle.std.proofs.Common.{◌≡◌, ℕ, ◌+◌, ◌-◌, ◌<◌, ◌≤◌, List, [], ◌∷◌, ◌++◌, map, length, Some, Ok, Err, string_bytes, Option, Result, refl, subst, append_assoc, append-nil, arith, length-append, Bor}
 use Rattle.netlist.specs.declared.record.Record.{Record}
 use Rattle.netlist.specs.Faults.{before, join, nothing, verdict}
 use Rattle.netlist.specs.declared.refusal.Refusal.{Refusal}
@@ -26,7 +26,7 @@ gathers_none (Ok c) = refl
 gathers_none (Err e) = refl
 
 -- One more module, with a name.
-pub added_module : (new old : List Module) (m : Module) (cs : List Channel) (ss : List ℕ) (r : Record) (kind : Kind) (text : MutBor (List ℕ))
+pub added_module : (new old : List Module) (m : Module) (cs : List Channel) (ss : List ℕ) (r : Record) (kind : Kind) (text : Bor (List ℕ))
     → r ≡ AModule kind text → new ≡ old ++ (m ∷ []) → m.kind ≡ kind → string_bytes m.name.text ≡ text.now
     → ◌≡◌ {A = Contents} (record { modules = map entry_of new; channels = cs; sizes = ss })
     (join (record { modules = map entry_of old; channels = cs; sizes = ss }) (held r))

@@ -6,11 +6,11 @@ use Rattle.netlist.proofs.Filled.{fits_verdict, kept_netlist, same_count}
 use Rattle.netlist.proofs.Kept.{valid_kept}
 use Rattle.netlist.proofs.reading.read.Goals as goal
 
-pub invariant-of-drop : goal.invariant-of-drop
-invariant-of-drop c =
+pub invariant_of-drop : goal.invariant_of-drop
+invariant_of-drop c =
     let all = c.in_ok-modules.field-0 in
     let k = kept_netlist _ _ _ all.modules.ok.0 (valid_kept (gathered all) (says_of c.args.file.now (gathered all) c.in_ok-modules.ensures).valid) in
-    (k.some, (search rules, (k.sources, (k.sinks, tt))))
+    record { some = k.some; few = search rules; sources = k.sources; sinks = k.sinks }
 
 pub returns : goal.returns
 returns c =

@@ -4,43 +4,43 @@ use Rattle.netlist.proofs.Sections.{ahead_channel, ahead_module, ahead_size, no_
 use Rattle.netlist.proofs.Sound.{byte_shorter, channel_shorter, entry_named, entry_shorter}
 use Rattle.netlist.proofs.scan.Scan.item.Goals as goal
 
-pub returns-in_err-kind : goal.returns-in_err-kind
-returns-in_err-kind c =
-    let p = err_from_is_err_and c.from-residual.result c.from-residual.ensures.1 in
-    rw (p.1, p.2) (record { takes = (no_module _ _ _ _ _ c.requires _ c.in-Modules.is c.in_err-kind.ensures, refl); fair = tt; shorter = tt })
+pub returns-in_err-kind-in-Modules : goal.returns-in_err-kind-in-Modules
+returns-in_err-kind-in-Modules c =
+    let p = err_from_is_err_and c.from_residual.result c.from_residual.ensures.1 in
+    rw (p.1, p.2) (record { takes = (no_module _ _ _ _ _ c.requires _ c.in-Modules.is c.in_err-kind-in-Modules.ensures, refl); fair = tt; shorter = tt })
 
-pub returns-in_err-channel : goal.returns-in_err-channel
-returns-in_err-channel c =
-    let p = err_from_is_err_and c.from-residual-in_err-channel.result c.from-residual-in_err-channel.ensures.1 in
-    rw (p.1, p.2) (record { takes = (no_channel _ _ _ _ _ c.requires _ c.in-Channels.is c.in_err-channel.ensures, refl); fair = tt; shorter = tt })
+pub returns-in_err-channel-in-Channels : goal.returns-in_err-channel-in-Channels
+returns-in_err-channel-in-Channels c =
+    let p = err_from_is_err_and c.from_residual-in_err-channel-in-Channels.result c.from_residual-in_err-channel-in-Channels.ensures.1 in
+    rw (p.1, p.2) (record { takes = (no_channel _ _ _ _ _ c.requires _ c.in-Channels.is c.in_err-channel-in-Channels.ensures, refl); fair = tt; shorter = tt })
 
-pub returns-in_err-size : goal.returns-in_err-size
-returns-in_err-size c =
-    let p = err_from_is_err_and c.from-residual-in_err-size.result c.from-residual-in_err-size.ensures.1 in
-    rw (p.1, p.2) (record { takes = (no_size _ _ _ _ _ c.requires _ c.in-Sizes.is c.in_err-size.ensures, refl); fair = tt; shorter = tt })
+pub returns-in_err-size-in-Sizes : goal.returns-in_err-size-in-Sizes
+returns-in_err-size-in-Sizes c =
+    let p = err_from_is_err_and c.from_residual-in_err-size-in-Sizes.result c.from_residual-in_err-size-in-Sizes.ensures.1 in
+    rw (p.1, p.2) (record { takes = (no_size _ _ _ _ _ c.requires _ c.in-Sizes.is c.in_err-size-in-Sizes.ensures, refl); fair = tt; shorter = tt })
 
-pub returns-in_ok-kind : goal.returns-in_ok-kind
-returns-in_ok-kind c =
+pub returns-in_ok-kind-in-Modules : goal.returns-in_ok-kind-in-Modules
+returns-in_ok-kind-in-Modules c =
     record {
-      takes = ahead_module _ _ _ _ _ c.requires _ _ c.in-Modules.is c.in_ok-kind.ensures;
-      fair = entry_named c.args.self.now.rest.now _ _ c.in_ok-kind.ensures;
-      shorter = entry_shorter c.args.self.now.rest.now _ _ c.in_ok-kind.ensures;
+      takes = ahead_module _ _ _ _ _ c.requires _ _ c.in-Modules.is c.in_ok-kind-in-Modules.ensures;
+      fair = entry_named c.args.self.now.rest.now _ _ c.in_ok-kind-in-Modules.ensures;
+      shorter = entry_shorter c.args.self.now.rest.now _ _ c.in_ok-kind-in-Modules.ensures;
     }
 
-pub returns-in_ok-channel : goal.returns-in_ok-channel
-returns-in_ok-channel c =
+pub returns-in_ok-channel-in-Channels : goal.returns-in_ok-channel-in-Channels
+returns-in_ok-channel-in-Channels c =
     record {
-      takes = ahead_channel _ _ _ _ _ c.requires _ _ c.in-Channels.is c.in_ok-channel.ensures;
+      takes = ahead_channel _ _ _ _ _ c.requires _ _ c.in-Channels.is c.in_ok-channel-in-Channels.ensures;
       fair = tt;
-      shorter = channel_shorter c.args.self.now.modules c.args.self.now.rest.now _ _ c.in_ok-channel.ensures;
+      shorter = channel_shorter c.args.self.now.modules c.args.self.now.rest.now _ _ c.in_ok-channel-in-Channels.ensures;
     }
 
-pub returns-in_ok-size : goal.returns-in_ok-size
-returns-in_ok-size c =
+pub returns-in_ok-size-in-Sizes : goal.returns-in_ok-size-in-Sizes
+returns-in_ok-size-in-Sizes c =
     record {
-      takes = ahead_size _ _ _ _ _ c.requires _ _ c.in-Sizes.is c.in_ok-size.ensures;
+      takes = ahead_size _ _ _ _ _ c.requires _ _ c.in-Sizes.is c.in_ok-size-in-Sizes.ensures;
       fair = tt;
-      shorter = byte_shorter 1 16 c.args.self.now.rest.now _ _ c.in_ok-size.ensures;
+      shorter = byte_shorter 1 16 c.args.self.now.rest.now _ _ c.in_ok-size-in-Sizes.ensures;
     }
 
 pub unreachable-requires : goal.unreachable-requires

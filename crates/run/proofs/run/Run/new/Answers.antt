@@ -11,8 +11,8 @@ lay-entries-requires g c =
     let fits = lists_fit c.args.rating.netlist.now c.sizing.result.now c.args.rating.sizing.now c.channels.result.now lends c.sizing.ensures c.requires.sized in
     record { few = fits.0; same = fits.1; small = fits.2 }
 
-pub invariant-of-result : goal.invariant-of-result
-invariant-of-result g c =
+pub invariant_of-result : goal.invariant_of-result
+invariant_of-result g c =
     let n = c.args.rating.netlist.now in
     let m = c.netlist-netlist.result.now in
     let qs = c.sizing.result.now in
