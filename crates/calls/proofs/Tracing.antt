@@ -7,10 +7,10 @@ use Rattle.netlist.specs.declared.kind.Kind.{Kind}
 use Rattle.netlist.specs.declared.kind.Kind.TheVariants.{Block, RelayStation}
 use Rattle.netlist.specs.declared.netlist.Netlist.{Netlist}
 use Rattle.netlist.specs.Holds.{channel, channels, channels_of, kind_of, modules}
-use Rattle.check.specs.Nets.{Origin}
-use Rattle.check.specs.Verdicts.{Passed}
-use Rattle.check.proofs.Passes.{both_kinds, one_counted, same_counted}
-use Rattle.check.proofs.Held.{source_in}
+use Rattle.checking.specs.Nets.{Origin}
+use Rattle.checking.specs.Verdicts.{Passed}
+use Rattle.checking.proofs.Passes.{both_kinds, one_counted, same_counted}
+use Rattle.checking.proofs.Held.{source_in}
 use Rattle.counts.specs.Nets.{Net, is_block, net_of}
 use Rattle.counts.specs.Origins.{feeder, origin, origin_by, Lawful}
 use Rattle.calls.specs.Laws.{OriginsAreMet}

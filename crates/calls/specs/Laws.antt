@@ -4,8 +4,8 @@ use Rattle.std.specs.Prelude.{◌≡◌, ℕ, ◌+◌, ◌-◌, ◌*◌, ◌<◌
 use Rattle.std.specs.Int.{IsInRange}
 use Rattle.netlist.specs.declared.netlist.Netlist.{Netlist}
 use Rattle.netlist.specs.Holds.{channels, modules}
-use Rattle.check.specs.Nets.{Origin}
-use Rattle.check.specs.Verdicts.{Passed}
+use Rattle.checking.specs.Nets.{Origin}
+use Rattle.checking.specs.Verdicts.{Passed}
 use Rattle.marked.specs.Graphs.{Reaches}
 use Rattle.rating.specs.declared.rating.Rating.{Rating}
 use Rattle.rating.specs.Extended.{graph_of}

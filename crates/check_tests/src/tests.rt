@@ -1,6 +1,6 @@
 ghost use Rattle.std.specs.Prelude.{◌≤◌, length};
 
-use check::check;
+use checking::check;
 use netlist::{Cause, Netlist, Refusal, read};
 use std::alloc::Global;
 use std::test::Fail;

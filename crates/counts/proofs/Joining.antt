@@ -1,7 +1,7 @@
 -- The extended graph of a checked netlist is in one piece. Assumes nothing.
 use Rattle.std.proofs.Common.{◌≡◌, ℕ, zero, suc, ◌+◌, ◌-◌, ◌*◌, ◌<◌, ◌≤◌, List, [], ◌∷◌, length, get_or, None, sym, refl, ap, ◌∙◌, subst, subst₂, inl, inr, arith}
 use Rattle.std.proofs.ByRecursion.{All-get_or}
-use Rattle.check.specs.Nets.{Joins, Way}
+use Rattle.checking.specs.Nets.{Joins, Way}
 use Rattle.marked.specs.declared.place.Place.{Place}
 use Rattle.marked.specs.Graphs.{Leads, at}
 use Rattle.netlist.specs.declared.channel.Channel.{Channel}

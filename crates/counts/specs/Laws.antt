@@ -1,7 +1,7 @@
 -- The counts of a netlist are those of its extended graph, which numbers modules from 0: module v is module v - 1 there. Assumes nothing.
 use Rattle.std.specs.Prelude.{◌≡◌, ℕ, suc, ◌-◌, ◌<◌, ◌≤◌, Bool, true, List, length, replicate, None, slice_index}
 use Rattle.std.specs.Int.{IsInRange}
-use Rattle.check.specs.Verdicts.{Passed}
+use Rattle.checking.specs.Verdicts.{Passed}
 use Rattle.firing.specs.Firings.{Hold, held, free, step, firings}
 use Rattle.firing.specs.Firings.{ready as ready_there}
 use Rattle.firing.specs.Theorems.{Connected, RatedGraph}

@@ -1,4 +1,4 @@
-use check::check;
+use checking::check;
 use forecasting::forecast;
 use netlist::{Netlist, ReadError, read};
 use std::alloc::{AllocError, Global};

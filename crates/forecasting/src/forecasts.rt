@@ -1,5 +1,5 @@
 ghost use Rattle.std.specs.Prelude.{◌≡◌, ℕ, ◌<◌, ◌≤◌, length, None, slice_index};
-ghost use Rattle.check.specs.Verdicts.{Passed};
+ghost use Rattle.checking.specs.Verdicts.{Passed};
 ghost use Rattle.marked.specs.Limits.{Starts};
 ghost use Rattle.netlist.specs.Holds.{channels, modules};
 ghost use Rattle.rating.specs.Sizings.{sizing_fault};
@@ -10,7 +10,7 @@ ghost use Rattle.forecasting.specs.Forecasts.{ForecastAnswer, Foretold};
 ghost use Rattle.forecasting.specs.Weights.{Fired, Unfired};
 
 use crate::weights::weigh;
-use check::Checked;
+use checking::Checked;
 use marked::{MODULES, PLACES, Place};
 use netlist::{Cause, Netlist, Refusal};
 use rating::extend::extend;

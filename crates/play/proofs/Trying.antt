@@ -6,7 +6,7 @@ use Rattle.cores.specs.Rules.{Rules}
 use Rattle.netlist.specs.declared.netlist.Netlist.{Netlist}
 use Rattle.netlist.specs.declared.refusal.Refusal.{Refusal}
 use Rattle.netlist.specs.Holds.{channels, modules}
-use Rattle.check.specs.Verdicts.{Passed}
+use Rattle.checking.specs.Verdicts.{Passed}
 use Rattle.marked.specs.Rates.{IsRate}
 use Rattle.rating.specs.declared.rating.Rating.{Rating}
 use Rattle.rating.specs.Extended.{graph_of}

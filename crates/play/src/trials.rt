@@ -1,9 +1,9 @@
-ghost use Rattle.check.specs.Verdicts.{Passed};
+ghost use Rattle.checking.specs.Verdicts.{Passed};
 ghost use Rattle.play.specs.Trials.{Tried};
 
 use crate::exchange::Exchange;
 use crate::plays::play;
-use check::Checked;
+use checking::Checked;
 use cores::CoreSet;
 use marked::MODULES;
 use netlist::Refusal;

@@ -1,5 +1,5 @@
 // What the public calls answer of a netlist that is checked first.
-use check::check;
+use checking::check;
 use cores::SumSet;
 use forecasting::forecast;
 use netlist::{Netlist, Refusal};

@@ -1,7 +1,7 @@
 -- What an accepted rating holds.
 use Rattle.std.proofs.Common.{◌≡◌, ℕ, ◌≤◌, false, ◌||◌, ltb, List, length, get_or, ℤ, pos, None, sym, refl, subst, arith}
 use Rattle.std.proofs.lemmas.Bool.Decides.{nat_tests}
-use Rattle.check.specs.Verdicts.{Passed}
+use Rattle.checking.specs.Verdicts.{Passed}
 use Rattle.netlist.specs.declared.netlist.Netlist.{Netlist}
 use Rattle.netlist.specs.Holds.{channels, modules}
 use Rattle.rating.specs.declared.rating.Rating.{Rating}

@@ -1,6 +1,6 @@
 -- What a rating answers and leaves. Assumes nothing.
 use Rattle.std.specs.Prelude.{◌≡◌, ℕ, suc, ◌-◌, ◌*◌, ◌<◌, ◌≤◌, cond, ◌||◌, ◌⊎◌, List, map, length, take, ℤ, pos, neg_ℤ, ◌≤ℤ◌, Some, None, Ok, Err, Option, Result, nat_lt, slice_index, slice_index_or}
-use Rattle.check.specs.Verdicts.{Passed}
+use Rattle.checking.specs.Verdicts.{Passed}
 use Rattle.marked.specs.declared.place.Place.{Place}
 use Rattle.marked.specs.Graphs.{Potential}
 use Rattle.marked.specs.Rates.{IsRate, Shown}

@@ -1,7 +1,7 @@
 ghost use Rattle.std.specs.Prelude.{◌≡◌, ◌≤◌, length, None};
 ghost use Rattle.netlist.specs.Holds.{channels, modules};
 ghost use Rattle.rating.specs.Extended.{graph_of};
-ghost use Rattle.check.specs.Verdicts.{Passed};
+ghost use Rattle.checking.specs.Verdicts.{Passed};
 ghost use Rattle.marked.specs.Answers.{Measured};
 ghost use Rattle.rating.specs.Ratings.{RateAnswer, RatedCycle, Rates};
 ghost use Rattle.rating.specs.Sizings.{sizing_fault};
@@ -10,7 +10,7 @@ use crate::extend::extend;
 use crate::numbers::put_numbers;
 use crate::rating::Rating;
 use crate::sizing::test_sizing;
-use check::Checked;
+use checking::Checked;
 use marked::{Graph, MODULES, PLACES, Place, Rated};
 use netlist::{Cause, Netlist, Refusal};
 

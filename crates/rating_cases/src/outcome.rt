@@ -1,5 +1,5 @@
 use crate::cycle::holds;
-use check::check;
+use checking::check;
 use netlist::{Netlist, ReadError, Refusal, read};
 use rating::{Rating, rate};
 use std::alloc::{AllocError, Global};

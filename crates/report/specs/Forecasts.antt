@@ -3,7 +3,7 @@ use Rattle.std.specs.Prelude.{◌≡◌, ℕ, ◌-◌, ◌⊎◌, List, ◌++◌
 use Rattle.forecasting.specs.Forecasts.{forecast_fault}
 use Rattle.counts.specs.Nets.{net_of}
 use Rattle.counts.specs.Steps.{freely}
-use Rattle.check.specs.Verdicts.{Passed}
+use Rattle.checking.specs.Verdicts.{Passed}
 use Rattle.netlist.specs.declared.netlist.Netlist.{Netlist}
 use Rattle.netlist.specs.declared.refusal.Refusal.{Refusal}
 use Rattle.netlist.specs.Holds.{modules_of}

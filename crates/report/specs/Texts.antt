@@ -1,6 +1,6 @@
 -- The text that the rating program prints of a file. Which slow cycle it shows is open. Assumes nothing.
 use Rattle.std.specs.Prelude.{◌≡◌, ℕ, suc, ◌<◌, ◌⊎◌, List, [], map, length, ℤ, pos, Ok, Err, Result, slice_index_or}
-use Rattle.check.specs.Verdicts.{Refused}
+use Rattle.checking.specs.Verdicts.{Refused}
 use Rattle.marked.specs.Graphs.{Potential}
 use Rattle.marked.specs.Rates.{IsRate, Shown}
 use Rattle.netlist.specs.declared.netlist.Netlist.{Netlist}

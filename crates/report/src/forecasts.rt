@@ -6,7 +6,7 @@ ghost use Rattle.report.specs.Lines.{numbered};
 ghost use Rattle.report.specs.Texts.{Prints};
 
 use crate::texts::CHANNELS;
-use check::check;
+use checking::check;
 use forecasting::forecast;
 use marked::MODULES;
 use netlist::{Module, Netlist, ReadError, read};

@@ -7,7 +7,7 @@ ghost use Rattle.report.specs.Texts.{Prints};
 
 use crate::request::Request;
 use crate::texts::{CHANNELS, checked_text};
-use check::check;
+use checking::check;
 use netlist::{Netlist, ReadError, read};
 use sizing::size;
 use std::alloc::{AllocError, Global};

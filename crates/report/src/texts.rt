@@ -1,11 +1,11 @@
 ghost use Rattle.std.specs.Prelude.{◌≡◌, IfOk, None, string_bytes};
 ghost use Rattle.netlist.specs.Holds.{channels};
-ghost use Rattle.check.specs.Verdicts.{Passed};
+ghost use Rattle.checking.specs.Verdicts.{Passed};
 ghost use Rattle.rating.specs.Sizings.{sizing_fault};
 ghost use Rattle.report.specs.Texts.{NetlistText, Prints, RatedText};
 
 use crate::lines::rating_text;
-use check::{Checked, check};
+use checking::{Checked, check};
 use marked::MODULES;
 use netlist::{Netlist, ReadError, read};
 use rating::rate;

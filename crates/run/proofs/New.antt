@@ -7,7 +7,7 @@ use Rattle.netlist.specs.declared.channel.Channel.{Channel}
 use Rattle.netlist.specs.declared.netlist.Module.{Module}
 use Rattle.netlist.specs.declared.netlist.Netlist.{Netlist}
 use Rattle.netlist.specs.Holds.{channels_of, kind_of, modules}
-use Rattle.check.specs.Verdicts.{Passed}
+use Rattle.checking.specs.Verdicts.{Passed}
 use Rattle.counts.specs.Nets.{is_block}
 use Rattle.calls.specs.Calls.{at_first}
 use Rattle.calls.proofs.Tracing.{lawful}

@@ -1,6 +1,6 @@
 // A case: a netlist under a sizing, a list of requests and an item table, played over a set of cores.
 use crate::marks::{Mark, mix};
-use check::check;
+use checking::check;
 use cores::{CoreSet, Number};
 use drafts::Shape;
 use netlist::{Netlist, read};

@@ -1,6 +1,6 @@
 // Long runs, by the calls of a run alone.
 use crate::marks::Mark;
-use check::check;
+use checking::check;
 use cores::SumSet;
 use drafts::Shape;
 use netlist::{Netlist, read};

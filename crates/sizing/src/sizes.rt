@@ -1,5 +1,5 @@
 ghost use Rattle.std.specs.Prelude.{◌≡◌, ◌≤◌, length, MatchOption};
-ghost use Rattle.check.specs.Verdicts.{Passed};
+ghost use Rattle.checking.specs.Verdicts.{Passed};
 ghost use Rattle.sizing.specs.Answers.{SizeAnswer};
 ghost use Rattle.sizing.specs.Candidates.{Fewest, Unreached};
 ghost use Rattle.sizing.specs.Trials.{Ready};
@@ -7,7 +7,7 @@ ghost use Rattle.sizing.specs.Trials.{Ready};
 use crate::aim::Aim;
 use crate::requests::test_request;
 use crate::trials::search;
-use check::Checked;
+use checking::Checked;
 use netlist::{Cause, Refusal};
 
 // The most channels that a netlist may have.

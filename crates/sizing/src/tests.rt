@@ -1,5 +1,5 @@
 use crate::size;
-use check::check;
+use checking::check;
 use netlist::{Cause, Netlist, Refusal, read};
 use std::alloc::Global;
 use std::test::Fail;

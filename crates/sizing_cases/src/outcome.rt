@@ -1,4 +1,4 @@
-use check::check;
+use checking::check;
 use netlist::{Netlist, ReadError, read};
 use rating::rate;
 use sizing::size;

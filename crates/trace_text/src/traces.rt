@@ -7,7 +7,7 @@ use crate::answers::add_answers;
 use crate::command::Command;
 use crate::requests::requests_of;
 use crate::table::{add_fills, add_firings};
-use check::check;
+use checking::check;
 use cores::SumSet;
 use netlist::{Module, Netlist, ReadError, read};
 use play::{Exchange, trial};

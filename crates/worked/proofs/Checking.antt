@@ -1,7 +1,7 @@
 -- Two blocks without a channel: the second is not joined to the first. Assumes nothing.
 use Rattle.std.proofs.Common.{◌≡◌, ℕ, zero, suc, ◌-◌, [], ◌∷◌, get_or, refl, ◌∙◌, inl, inr, arith}
-use Rattle.check.specs.Faults.{Apart, Loose, Lowest, Nobody}
-use Rattle.check.specs.Verdicts.{Refused}
+use Rattle.checking.specs.Faults.{Apart, Loose, Lowest, Nobody}
+use Rattle.checking.specs.Verdicts.{Refused}
 use Rattle.netlist.specs.declared.kind.Kind.{Kind}
 use Rattle.netlist.specs.declared.kind.Kind.TheVariants.{Block, RelayStation}
 use Rattle.netlist.specs.declared.netlist.Netlist.{Netlist}

@@ -8,7 +8,7 @@ use Rattle.netlist.specs.declared.refusal.Refusal.{Refusal}
 use Rattle.netlist.specs.Faults.{verdict}
 use Rattle.netlist.specs.Holds.{Holds, channels}
 use Rattle.netlist.specs.Layout.{Contents, Says, layout}
-use Rattle.check.specs.Verdicts.{Refused}
+use Rattle.checking.specs.Verdicts.{Refused}
 use Rattle.marked.specs.Graphs.{Potential}
 use Rattle.marked.specs.Rates.{IsRate}
 use Rattle.rating.specs.Extended.{graph_of}

@@ -1,5 +1,5 @@
 use Rattle.std.proofs.Common.{◌≡◌, None, subst, inl}
-use Rattle.check.specs.Verdicts.{Passed}
+use Rattle.checking.specs.Verdicts.{Passed}
 use Rattle.forecasting.specs.Forecasts.{forecast_fault}
 use Rattle.netlist.specs.declared.netlist.Netlist.{Netlist}
 use Rattle.report.proofs.Foretold.{counted_text}

@@ -1,5 +1,0 @@
-use Rattle.check.proofs.Held.{relay_read}
-use Rattle.check.proofs.loose.is_relay.Goals as goal
-
-pub returns : goal.returns
-returns c = relay_read c.args.netlist.now c.args.v c.modules.result.now c.index-modules-v.result c.eq.result c.modules.ensures c.requires c.eq.ensures

@@ -1,0 +1,40 @@
+// Modules that are not joined to module 1.
+ghost use Rattle.std.specs.Prelude.{◌≡◌, ℕ, ◌-◌, false, length, Decides, slice_index_or};
+ghost use Rattle.std.specs.Int.{IsInRange};
+ghost use Rattle.checking.specs.Links.{Finds};
+ghost use Rattle.netlist.specs.Holds.{modules as modules-in};
+ghost use Rattle.checking.specs.Nets.{Joined};
+ghost use Rattle.checking.specs.Faults.{Apart};
+
+use crate::link::Link;
+use netlist::Netlist;
+
+// Leaves yes at each module that is joined to module 1.
+fn join(netlist: &Netlist, at: &mut [bool])
+    requires { length at.old ≡ modules-in netlist.now }
+    ensures { (v : ℕ) → IsInRange 1 (modules-in netlist.now) v → Decides (slice_index_or at.new (v - 1) false) (Joined netlist.now 1 v) }
+{
+    let n = netlist.modules().len();
+    let mut cells = [false; 4096];
+    let table = &mut cells[0..n * n];
+    Link::EitherWay.fill(netlist, table);
+    at.fill(false);
+    at[0] = true;
+    Link::EitherWay.spread(netlist, table, at);
+}
+
+// The lowest module that is not joined to module 1.
+pub(crate) fn module_apart(netlist: &Netlist) -> Option<usize>
+    ensures { Finds (modules-in netlist.now) (Joined netlist.now 1) (Apart netlist.now) result }
+{
+    let n = netlist.modules().len();
+    let mut cells = [false; 64];
+    let at = &mut cells[0..n];
+    join(netlist, at);
+    for v in 1..=n {
+        if !at[v - 1] {
+            return Some(v);
+        }
+    }
+    None
+}

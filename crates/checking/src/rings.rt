@@ -1,0 +1,41 @@
+// Rings of relay stations only.
+ghost use Rattle.std.specs.Prelude.{◌≡◌, ◌*◌, length, Decides};
+ghost use Rattle.std.specs.Int.{IsInRange};
+ghost use Rattle.checking.specs.Links.{Finds, Table};
+ghost use Rattle.netlist.specs.Holds.{modules as modules-in};
+ghost use Rattle.checking.specs.Nets.{Hops};
+ghost use Rattle.checking.specs.Faults.{Ringed};
+
+use crate::link::Link;
+use netlist::Netlist;
+
+// Whether module `v` is on a ring: whether from where a step out of it leads, steps lead back to it.
+fn is_ringed(netlist: &Netlist, table: &[bool], v: usize) -> bool
+    requires in_range { IsInRange 1 (modules-in netlist.now) v }
+    requires table { Table (Hops netlist.now) (modules-in netlist.now) table.now }
+    requires table_len { length table.now ≡ modules-in netlist.now * modules-in netlist.now }
+    ensures { Decides result (Ringed netlist.now v) }
+{
+    let n = netlist.modules().len();
+    let mut cells = [false; 64];
+    let at = &mut cells[0..n];
+    Link::Relays.step_from(netlist, v, at);
+    Link::Relays.spread(netlist, table, at);
+    at[v - 1]
+}
+
+// The lowest module on a ring.
+pub(crate) fn ringed_module(netlist: &Netlist) -> Option<usize>
+    ensures { Finds (modules-in netlist.now) (λ v. Ringed netlist.now v → ⊥) (Ringed netlist.now) result }
+{
+    let n = netlist.modules().len();
+    let mut cells = [false; 4096];
+    let table = &mut cells[0..n * n];
+    Link::Relays.fill(netlist, table);
+    for v in 1..=n {
+        if is_ringed(netlist, table, v) {
+            return Some(v);
+        }
+    }
+    None
+}
