@@ -1,11 +1,14 @@
 -- What is read of a netlist: kinds, and the ends of channels. Assumes nothing.
 use Rattle.std.proofs.Common.{◌≡◌, ℕ, ◌+◌, ◌-◌, ◌<◌, Bool, true, false, cond, List, [], length, get_or, vec_items, Decides, refl, ap, subst, ⊎_elim, arith}
+use denote.Enum.Bare.{sameb}
 use Rattle.std.proofs.lemmas.List.{get_or-map}
 use Rattle.std.proofs.lemmas.Bool.{false≢true}
 use Rattle.std.specs.Int.{IsInRange}
 use Rattle.netlist.specs.Holds.{channels_of, entry_of}
 use Rattle.netlist.specs.Layout.{Entry}
 use Rattle.netlist.specs.declared.channel.Channel.{Channel}
+use Rattle.netlist.specs.contracts.kind.Kind.{the_type}
+use Rattle.netlist.specs.declared.kind.Kind.{Kind}
 use Rattle.netlist.specs.declared.kind.Kind.TheVariants.{Block, RelayStation}
 use Rattle.netlist.specs.declared.netlist.Module.{Module}
 use Rattle.netlist.specs.declared.netlist.Netlist.{Netlist}
@@ -25,6 +28,11 @@ pub relay_read : (n : Netlist) (v : ℕ) (ms : List Module) (m : Module) (r : Bo
     → cond r ((get_or ms (v - 1) m).kind ≡ RelayStation) ((get_or ms (v - 1) m).kind ≡ RelayStation → ⊥) → Decides r (Relay n v)
 relay_read n v ms m true same h test = rw (kind_read n v m h, ← same) ((λ y. test), (λ y. refl))
 relay_read n v ms m false same h test = rw (kind_read n v m h, ← same) ((λ y. absurd (false≢true y)), (λ y. absurd (test y)))
+
+-- what a derived `==` against a relay station says
+pub relay_same : (k : Kind) (r : Bool) → r ≡ sameb the_type k RelayStation → cond r (k ≡ RelayStation) (k ≡ RelayStation → ⊥)
+relay_same Block r e = rw e (λ (y : Block ≡ RelayStation). cc)
+relay_same RelayStation r e = rw e refl
 
 -- the ends of a channel are modules
 sink_in : (n : Netlist) (e : ℕ) → IsInRange 1 (channels n) e → IsInRange 1 (modules n) (channel n e).sink

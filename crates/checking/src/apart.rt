@@ -2,7 +2,7 @@
 ghost use Rattle.std.specs.Prelude.{◌≡◌, ℕ, ◌-◌, false, length, Decides, slice_index_or};
 ghost use Rattle.std.specs.Int.{IsInRange};
 ghost use Rattle.checking.specs.Links.{Finds};
-ghost use Rattle.netlist.specs.Holds.{modules as modules-in};
+ghost use Rattle.netlist.specs.Holds.{modules as modules_in};
 ghost use Rattle.checking.specs.Nets.{Joined};
 ghost use Rattle.checking.specs.Faults.{Apart};
 
@@ -11,8 +11,8 @@ use netlist::Netlist;
 
 // Leaves yes at each module that is joined to module 1.
 fn join(netlist: &Netlist, at: &mut [bool])
-    requires { length at.old ≡ modules-in netlist.now }
-    ensures { (v : ℕ) → IsInRange 1 (modules-in netlist.now) v → Decides (slice_index_or at.new (v - 1) false) (Joined netlist.now 1 v) }
+    requires { length at.old ≡ modules_in netlist.now }
+    ensures { (v : ℕ) → IsInRange 1 (modules_in netlist.now) v → Decides (slice_index_or at.new (v - 1) false) (Joined netlist.now 1 v) }
 {
     let n = netlist.modules().len();
     let mut cells = [false; 4096];
@@ -25,7 +25,7 @@ fn join(netlist: &Netlist, at: &mut [bool])
 
 // The lowest module that is not joined to module 1.
 pub(crate) fn module_apart(netlist: &Netlist) -> Option<usize>
-    ensures { Finds (modules-in netlist.now) (Joined netlist.now 1) (Apart netlist.now) result }
+    ensures { Finds (modules_in netlist.now) (Joined netlist.now 1) (Apart netlist.now) result }
 {
     let n = netlist.modules().len();
     let mut cells = [false; 64];

@@ -3,7 +3,7 @@
 ghost use Rattle.std.specs.Prelude.{◌≡◌, ℕ, ◌+◌, ◌*◌, ◌<◌, false, length, Decides, slice_index_or};
 ghost use Rattle.std.specs.Int.{IsInRange};
 ghost use Rattle.checking.specs.Links.{Move, Reached, Stepping, Table, Step, Takes};
-ghost use Rattle.netlist.specs.Holds.{modules as modules-in};
+ghost use Rattle.netlist.specs.Holds.{modules as modules_in};
 
 use crate::loose::is_relay;
 use netlist::{Channel, Netlist};
@@ -20,7 +20,7 @@ pub(crate) enum Link {
 impl Link {
     // Whether the channel makes a step from module `u` to module `v`.
     fn takes(self, netlist: &Netlist, channel: Channel, u: usize, v: usize) -> bool
-        requires { (IsInRange 1 (modules-in netlist.now) u) × (IsInRange 1 (modules-in netlist.now) v) }
+        requires { (IsInRange 1 (modules_in netlist.now) u) × (IsInRange 1 (modules_in netlist.now) v) }
         ensures { Decides result (Takes self netlist.now channel u v) }
     {
         let (source, sink) = (channel.source as usize, channel.sink as usize);
@@ -34,7 +34,7 @@ impl Link {
 
     // Whether some channel does.
     fn steps(self, netlist: &Netlist, u: usize, v: usize) -> bool
-        requires { (IsInRange 1 (modules-in netlist.now) u) × (IsInRange 1 (modules-in netlist.now) v) }
+        requires { (IsInRange 1 (modules_in netlist.now) u) × (IsInRange 1 (modules_in netlist.now) v) }
         ensures { Decides result ((e : ℕ) × Step self netlist.now e u v) }
     {
         for channel in netlist.channels() {
@@ -47,7 +47,7 @@ impl Link {
 
     // Whether one may be at `v` a move after being at `u`: by staying there, or by a step.
     fn moves(self, netlist: &Netlist, u: usize, v: usize) -> bool
-        requires { (IsInRange 1 (modules-in netlist.now) u) × (IsInRange 1 (modules-in netlist.now) v) }
+        requires { (IsInRange 1 (modules_in netlist.now) u) × (IsInRange 1 (modules_in netlist.now) v) }
         ensures { Decides result (Move (Step self netlist.now) u v) }
     {
         u == v || self.steps(netlist, u, v)
@@ -55,8 +55,8 @@ impl Link {
 
     // Fills the table of moves.
     pub(crate) fn fill(self, netlist: &Netlist, table: &mut [bool])
-        requires { length table.old ≡ modules-in netlist.now * modules-in netlist.now }
-        ensures { Table (Step self netlist.now) (modules-in netlist.now) table.new }
+        requires { length table.old ≡ modules_in netlist.now * modules_in netlist.now }
+        ensures { Table (Step self netlist.now) (modules_in netlist.now) table.new }
     {
         let n = netlist.modules().len();
         for (at, cell) in table.iter_mut().enumerate() {
@@ -66,7 +66,7 @@ impl Link {
 
     // Leaves yes at each module to which a step leads from module `u`.
     pub(crate) fn step_from(self, netlist: &Netlist, u: usize, at: &mut [bool])
-        requires { (IsInRange 1 (modules-in netlist.now) u) × (length at.old ≡ modules-in netlist.now) }
+        requires { (IsInRange 1 (modules_in netlist.now) u) × (length at.old ≡ modules_in netlist.now) }
         ensures { Stepping (Step self netlist.now) u at.new }
     {
         for (v, cell) in at.iter_mut().enumerate() {
@@ -77,10 +77,10 @@ impl Link {
     // Leaves yes at each module that steps, one or more or none, lead to from a module at which `at` says yes. A way that passes a
     // module twice can be cut short, so n - 1 moves are enough.
     pub(crate) fn spread(self, netlist: &Netlist, table: &[bool], at: &mut [bool])
-        requires table { Table (Step self netlist.now) (modules-in netlist.now) table.now }
-        requires table_len { length table.now ≡ modules-in netlist.now * modules-in netlist.now }
-        requires at_len { length at.old ≡ modules-in netlist.now }
-        ensures { (v : ℕ) → v < modules-in netlist.now → Decides (slice_index_or at.new v false) (Reached (Step self netlist.now) at.old v) }
+        requires table { Table (Step self netlist.now) (modules_in netlist.now) table.now }
+        requires table_len { length table.now ≡ modules_in netlist.now * modules_in netlist.now }
+        requires at_len { length at.old ≡ modules_in netlist.now }
+        ensures { (v : ℕ) → v < modules_in netlist.now → Decides (slice_index_or at.new v false) (Reached (Step self netlist.now) at.old v) }
     {
         let n = netlist.modules().len();
         let mut scratch = [false; 64];

@@ -2,15 +2,15 @@
 ghost use Rattle.std.specs.Prelude.{◌≡◌, Decides};
 ghost use Rattle.std.specs.Int.{IsInRange};
 ghost use Rattle.checking.specs.Links.{Finds};
-ghost use Rattle.netlist.specs.Holds.{modules as modules-in};
-ghost use Rattle.checking.specs.Nets.{Relay, inputs as inputs-of, outputs as outputs-of};
+ghost use Rattle.netlist.specs.Holds.{modules as modules_in};
+ghost use Rattle.checking.specs.Nets.{Relay, inputs as inputs_of, outputs as outputs_of};
 ghost use Rattle.checking.specs.Faults.{Loose};
 
 use netlist::{Kind, Netlist};
 
 // Whether module `v` is a relay station.
 pub(crate) fn is_relay(netlist: &Netlist, v: usize) -> bool
-    requires { IsInRange 1 (modules-in netlist.now) v }
+    requires { IsInRange 1 (modules_in netlist.now) v }
     ensures { Decides result (Relay netlist.now v) }
 {
     netlist.modules()[v - 1].kind == Kind::RelayStation
@@ -24,7 +24,7 @@ struct Degree {
 
 impl Degree {
     fn of(netlist: &Netlist, v: usize) -> Degree
-        ensures { (result.inputs ≡ inputs-of netlist.now v) × (result.outputs ≡ outputs-of netlist.now v) }
+        ensures { (result.inputs ≡ inputs_of netlist.now v) × (result.outputs ≡ outputs_of netlist.now v) }
     {
         let mut inputs = 0;
         let mut outputs = 0;
@@ -42,7 +42,7 @@ impl Degree {
 
 // Whether module `v` is a relay station without exactly one input channel, or without an output channel.
 fn is_loose(netlist: &Netlist, v: usize) -> bool
-    requires { IsInRange 1 (modules-in netlist.now) v }
+    requires { IsInRange 1 (modules_in netlist.now) v }
     ensures { Decides result (Loose netlist.now v) }
 {
     let Degree { inputs, outputs } = Degree::of(netlist, v);
@@ -51,7 +51,7 @@ fn is_loose(netlist: &Netlist, v: usize) -> bool
 
 // The lowest such relay station.
 pub(crate) fn loose_relay(netlist: &Netlist) -> Option<usize>
-    ensures { Finds (modules-in netlist.now) (λ v. Loose netlist.now v → ⊥) (Loose netlist.now) result }
+    ensures { Finds (modules_in netlist.now) (λ v. Loose netlist.now v → ⊥) (Loose netlist.now) result }
 {
     for v in 1..=netlist.modules().len() {
         if is_loose(netlist, v) {

@@ -2,7 +2,7 @@
 ghost use Rattle.std.specs.Prelude.{◌≡◌, ◌*◌, length, Decides};
 ghost use Rattle.std.specs.Int.{IsInRange};
 ghost use Rattle.checking.specs.Links.{Finds, Table};
-ghost use Rattle.netlist.specs.Holds.{modules as modules-in};
+ghost use Rattle.netlist.specs.Holds.{modules as modules_in};
 ghost use Rattle.checking.specs.Nets.{Hops};
 ghost use Rattle.checking.specs.Faults.{Ringed};
 
@@ -11,9 +11,9 @@ use netlist::Netlist;
 
 // Whether module `v` is on a ring: whether from where a step out of it leads, steps lead back to it.
 fn is_ringed(netlist: &Netlist, table: &[bool], v: usize) -> bool
-    requires in_range { IsInRange 1 (modules-in netlist.now) v }
-    requires table { Table (Hops netlist.now) (modules-in netlist.now) table.now }
-    requires table_len { length table.now ≡ modules-in netlist.now * modules-in netlist.now }
+    requires in_range { IsInRange 1 (modules_in netlist.now) v }
+    requires table { Table (Hops netlist.now) (modules_in netlist.now) table.now }
+    requires table_len { length table.now ≡ modules_in netlist.now * modules_in netlist.now }
     ensures { Decides result (Ringed netlist.now v) }
 {
     let n = netlist.modules().len();
@@ -26,7 +26,7 @@ fn is_ringed(netlist: &Netlist, table: &[bool], v: usize) -> bool
 
 // The lowest module on a ring.
 pub(crate) fn ringed_module(netlist: &Netlist) -> Option<usize>
-    ensures { Finds (modules-in netlist.now) (λ v. Ringed netlist.now v → ⊥) (Ringed netlist.now) result }
+    ensures { Finds (modules_in netlist.now) (λ v. Ringed netlist.now v → ⊥) (Ringed netlist.now) result }
 {
     let n = netlist.modules().len();
     let mut cells = [false; 4096];

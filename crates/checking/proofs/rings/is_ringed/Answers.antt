@@ -12,4 +12,4 @@ returns c =
     let v = c.args.v in
     let at = c.step_from.new.at in
     let long : length at ≡ modules n = search rules in
-    ring_found (Hops n) at (modules n) v (get_or c.spread.new.at (v - 1) false) long c.requires.0 (step_in Relays n) c.step_from.ensures (c.spread.ensures (v - 1) (omega (arith, c.requires.0.0, c.requires.0.1)))
+    ring_found (Hops n) at (modules n) v (get_or c.spread.new.at (v - 1) false) long c.requires.in_range (step_in Relays n) c.step_from.ensures (c.spread.ensures (v - 1) (omega (arith, c.requires.in_range.0, c.requires.in_range.1)))
