@@ -30,7 +30,7 @@ def identifiers(crate):
 
 def mend(name, words):
     for word in words:
-        name = re.sub(r"(?<![^\W_])" + re.escape(word.replace("_", "-")) + r"(?![^\W_])", word, name)
+        name = re.sub(r"(?<!\w)" + re.escape(word.replace("_", "-")) + r"(?!\w)", word, name)
     return name
 
 
