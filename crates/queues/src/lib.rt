@@ -1,8 +1,8 @@
 //! The channels of a chip as queues in one table of items, and the firing of a module on them.
 mod channels;
-mod firing;
+mod fires;
 mod queue;
 
 pub use channels::Channels;
-pub use firing::{fire, start};
+pub use fires::{fire, start};
 pub use queue::Queue;

@@ -1,12 +1,12 @@
 use Rattle.std.proofs.Common.{arith}
-use Rattle.sizing.proofs.Charging.{charged, lacks_few}
+use Rattle.sizing.proofs.Charging.{charged}
 use Rattle.sizing.proofs.Deeper.{found_covers}
 use Rattle.sizing.proofs.Readying.{ready_between}
 use Rattle.sizing.proofs.Tables.{least_trans}
 use Rattle.sizing.proofs.bounds.least_needed.Goals as goal
 
-pub slow-cycle-requires : goal.slow-cycle-requires
-slow-cycle-requires c =
+pub slow_cycle_with_tokens-requires : goal.slow_cycle_with_tokens-requires
+slow_cycle_with_tokens-requires c =
     let n = c.args.aim.netlist.now in
     let ready = ready_between n c.args.aim.target.0 c.args.aim.target.1 c.args.aim.caps.now c.args.sizes.now c.loop-need.raised c.requires.ready c.loop-need.invariant.0 c.loop-need.invariant.1 in
     record { sized = ready.sized; target = (ready.proper, ready.small); room = n.some.1 }
@@ -16,21 +16,9 @@ lift-requires c =
     let n = c.args.aim.netlist.now in
     let ready = ready_between n c.args.aim.target.0 c.args.aim.target.1 c.args.aim.caps.now c.args.sizes.now c.loop-need.raised c.requires.ready c.loop-need.invariant.0 c.loop-need.invariant.1 in
     record {
-      within = (found_covers n c.args.aim.target.0 c.args.aim.target.1 c.args.aim.caps.now c.loop-need.raised ready _ c.slow-cycle.new.cycle c.in-Some.slow.length c.in-Some.ensures.0).places;
+      within = (found_covers n c.args.aim.target.0 c.args.aim.target.1 c.args.aim.caps.now c.loop-need.raised ready _ c.slow_cycle_with_tokens.new.cycle c.in-Some.slow.length c.in-Some.ensures.0).places;
       under = c.loop-need.invariant.1;
     }
-
-pub overflow_add-need : goal.overflow_add-need
-overflow_add-need c =
-    let n = c.args.aim.netlist.now in
-    let slow = c.in-Some.slow in
-    omega (
-      arith,
-      c.requires.few,
-      lacks_few c.args.aim.target.0 c.args.aim.target.1 slow.length slow.tokens c.lacking-need.result c.lacking-need.ensures c.requires.ready.proper,
-      c.in-Some.ensures.0.short,
-      n.some.1,
-    )
 
 pub loop-need-preserved : goal.loop-need-preserved
 loop-need-preserved c =
@@ -40,12 +28,17 @@ loop-need-preserved c =
     let caps = c.args.aim.caps.now in
     let sizes = c.args.sizes.now in
     let raised = c.loop-need.raised in
-    let cycle = c.slow-cycle.new.cycle in
+    let cycle = c.slow_cycle_with_tokens.new.cycle in
     let slow = c.in-Some.slow in
     let found = c.in-Some.ensures in
     let ready = ready_between n a b caps sizes raised c.requires.ready c.loop-need.invariant.0 c.loop-need.invariant.1 in (
       least_trans sizes raised c.lift.new.sizes c.loop-need.invariant.0 c.lift.ensures.above,
       c.lift.ensures.under,
-      charged n a b caps sizes raised c.lift.new.sizes _ cycle slow.length slow.tokens c.lacking-need.result c.loop-need.need ready c.loop-need.invariant.0
-          (omega (arith, found.0.short, n.some.1, c.slow-cycle.auto.cycle)) found.0 found.1 c.lacking-need.ensures c.lift.ensures.above c.lift.ensures.full c.loop-need.invariant.2,
+      λ t over under good.
+          omega (
+            arith,
+            c.saturating_add-need.ensures,
+            charged n a b caps sizes raised c.lift.new.sizes _ cycle slow.length slow.tokens c.lacking.result c.loop-need.need ready c.loop-need.invariant.0
+                (omega (arith, found.0.short, n.some.1, c.slow_cycle_with_tokens.auto.cycle)) found.0 found.1 c.lacking.ensures c.lift.ensures.above c.lift.ensures.full c.loop-need.invariant.2 t over under good,
+          ),
     )

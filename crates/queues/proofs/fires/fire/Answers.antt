@@ -5,7 +5,7 @@ use Rattle.queues.specs.Flows.{Flows, Opens, Sole, more, into, from}
 use Rattle.queues.specs.Stands.{items}
 use Rattle.queues.proofs.Replacing.{kept_trans}
 use Rattle.queues.proofs.Strictly.{block_fires, relay_fires, feeds_enabled}
-use Rattle.queues.proofs.firing.fire.Goals as goal
+use Rattle.queues.proofs.fires.fire.Goals as goal
 
 pub returns-then-block : goal.returns-then-block
 returns-then-block g c =
@@ -29,7 +29,7 @@ returns-then-block g c =
           block_fires ok before chip f w₀ (m.rules k₀) (m.held k₀) c.args.table.now st v en is_block w₁ w₂ (m.rules k₂) (m.held k₁) (m.held k₂) c.emit-item.result t₂
           c.gather.ensures.kept kept (c.emit-item.ensures.kept ∙ c.gather.ensures.rules) got.1
           (c.emit-item.ensures.item ∙ ap (λ q. q.item v (m.held k₁ v)) c.gather.ensures.rules)
-          (c.emit-item.ensures.own_val ∙ ap (λ q. q.next v (m.held k₁ v)) c.gather.ensures.rules)
+          (c.emit-item.ensures.own ∙ ap (λ q. q.next v (m.held k₁ v)) c.gather.ensures.rules)
           (λ u low ne. c.emit-item.ensures.others u low ne ∙ c.gather.ensures.others u low ne)
           (λ op. let P : ℕ → Type 0 = λ x. Opens ok w₁ x c.emit-item.result (more took (into w₀ v)) (puts chip.net f) (items chip) → Flows ok before w₂ t₂ (more took (into w₀ v)) (more (puts chip.net f) (from w₁ x)) (items chip) in
           subst P c.get.ensures (c.scatter.ensures.flow ok before (more took (into w₀ v)) (puts chip.net f) (items chip) got.0) op);

@@ -2,8 +2,8 @@ use Rattle.std.proofs.Common.{◌≡◌, ℕ, ◌+◌, ◌-◌, ◌<◌, ◌≤�
 use Rattle.queues.specs.declared.channels.Channels.{Channels}
 use Rattle.queues.specs.Flows.{queue_at, by_block}
 use Rattle.queues.proofs.Starting.{Started, started_none, started_on, started_off, started_lost, started_all}
-use Rattle.queues.proofs.firing.start.Goals as goal
-use Rattle.queues.proofs.firing.start.Goals.{in-Some+then-blocks-index, in-Some+else-blocks-index, in_default}
+use Rattle.queues.proofs.fires.start.Goals as goal
+use Rattle.queues.proofs.fires.start.Goals.{in-Some+then-blocks-index, in-Some+else-blocks-index, in_default}
 
 pub loop-e-init : goal.loop-e-init
 loop-e-init g c = started_none c.args.channels.now c.args.table.now c.args.blocks.now (g.C.CoreSet.rules c.args.cores.now).reset c.requires

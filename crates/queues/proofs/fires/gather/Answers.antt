@@ -2,8 +2,8 @@ use Rattle.std.proofs.Common.{◌≡◌, ℕ, ◌+◌, ◌<◌, ◌≤◌, Optio
 use Rattle.queues.specs.Holds.{Gives}
 use Rattle.queues.specs.declared.channels.Channels.{Channels}
 use Rattle.queues.proofs.Gather.{Gathered, gathered_none, gathered_on, gathered_off, gathered_lost, gathered_all}
-use Rattle.queues.proofs.firing.gather.Goals as goal
-use Rattle.queues.proofs.firing.gather.Goals.{then-channels-e+in-Some, then-channels-e+in_default, else-channels-e}
+use Rattle.queues.proofs.fires.gather.Goals as goal
+use Rattle.queues.proofs.fires.gather.Goals.{then-channels-e+in-Some, then-channels-e+in_default, else-channels-e}
 
 pub loop-e-init : goal.loop-e-init
 loop-e-init g c = let m = g.C.CoreSet in gathered_none c.args.channels.now c.args.table.now (m.rules c.args.cores.now) (m.held c.args.cores.now) c.args.v.value c.requires
@@ -24,7 +24,7 @@ loop-e-preserved g c =
       | then-channels-e+in-Some w ↦ subst₂ P (sym w.channels-is) (sym w.cores-is)
           (gathered_on w₀ t r₀ h₀ v n w₁ w.take.new.self (m.rules k₁) (m.rules w.absorb.new.self) (m.held k₁) (m.held w.absorb.new.self) w.in-Some.item
           c.loop-e.invariant c.loop-e-test.true (w.if-channels-e.true ∙ c.get.ensures) w.take.ensures.laid w.take.ensures.kept
-          w.absorb.ensures.kept w.absorb.ensures.others w.absorb.ensures.own_val
+          w.absorb.ensures.kept w.absorb.ensures.others w.absorb.ensures.own
           (λ ok before took put stream fl less. let f = w.take.ensures.flow ok before took put stream fl less in (subst (λ (o : Option g.row.C-Item.Denot). Gives ok o (stream n (took n))) w.in-Some.is f.0, f.1)))
       | then-channels-e+in_default w ↦ subst₂ P (sym w.channels-is) (sym w.cores-is)
           (gathered_lost w₀ t r₀ h₀ v n w₁ w.take.new.self (m.rules k₁) (m.held k₁) c.loop-e.invariant c.loop-e-test.true (w.if-channels-e.true ∙ c.get.ensures) w.take.ensures.laid w.take.ensures.kept

@@ -1,5 +1,5 @@
 use Rattle.queues.proofs.Gather.{Gathered}
-use Rattle.queues.proofs.firing.gather.Given as goal
+use Rattle.queues.proofs.fires.gather.Given as goal
 
 abbrev pub invariant-loop-e : goal.invariant-loop-e
 invariant-loop-e g l =
