@@ -20,16 +20,13 @@ invariant_of-result g c =
     let w = c.lay-entries.result.0 in
     let lends = c.channels.ensures ∙ ap (λ (x : Netlist). vec_items x.channels) c.netlist-netlist.ensures in
     let fits = lists_fit n qs c.args.rating.sizing.now cs lends c.sizing.ensures c.requires.sized in
-    let made = c.lay-entries.ensures in (
-      omega (arith, m.some.1, module_count m c.modules.result.now c.modules.ensures),
-      (
-        omega (arith, made.count, fits.0),
-        (
-          sounds_laid n qs cs w c.lay-entries.result.1 lends fits.1 made.count made.laid fits.2,
-          (apart_laid n qs cs w c.lay-entries.result.1 lends fits.1 made.count made.laid, tt),
-        ),
-      ),
-    )
+    let made = c.lay-entries.ensures in
+    record {
+      modules_high = omega (arith, m.some.1, module_count m c.modules.result.now c.modules.ensures);
+      count_high = omega (arith, made.count, fits.0);
+      sounds = sounds_laid n qs cs w c.lay-entries.result.1 lends fits.1 made.count made.laid fits.2;
+      apart = apart_laid n qs cs w c.lay-entries.result.1 lends fits.1 made.count made.laid;
+    }
 
 pub returns : goal.returns
 returns g c = λ table.
