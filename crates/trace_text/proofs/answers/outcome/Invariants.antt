@@ -4,4 +4,4 @@ use Rattle.trace_text.specs.Lines.{outcome_from}
 use Rattle.trace_text.proofs.answers.outcome.Given as goal
 
 abbrev pub invariant-loop-exchange : goal.invariant-loop-exchange
-invariant-loop-exchange l = outcome_from l.last (drop l.exchange-index l.own_val) ≡ outcome_from Done l.own_val
+invariant-loop-exchange l = outcome_from l.last (drop l.exchange-index l.own) ≡ outcome_from Done l.own

@@ -20,7 +20,7 @@ returns-in-Ok-added c =
     let back : c.in_ok-exchanges.exchanges.len ≡ length c.trial-added.new.exchanges = omega (arith, c.trial-added.auto.exchanges, c.as_mut_slice.ensures.len) in
     inl (traced _ n c.args.request _ _ _ c.in-Ok.ensures.0 few (search rules) c.requires c.args.commands.now c.in-Ok-added.added _ _ c.trial-added.result.1 c.as_mut_slice.result.now c.trial-added.new.exchanges _ c.trial-added.new.table _ _ _ _
     c.new.ensures (found_of _ _ _ _ _ _ _ _ _ _ _ _ _ _ _ c.trial-added.result.0 c.trial-added.ensures c.in-Ok-added.added c.in-Ok-added.is)
-    (c.as_mut_slice.ensures.value ∙ c.in_ok-exchanges.ensures ∙ ap₂ (asked_for c.args.commands.now) many few) c.modules.ensures (c.as_slice.ensures.value ∙ take_front c.in_ok-exchanges.exchanges.len c.trial-added.new.exchanges _ back) c.in_ok-text.ensures.ok c.in_ok-add_deepened.ensures c.in_ok-add_exchanges.ensures)
+    (c.as_mut_slice.ensures.value ∙ c.in_ok-exchanges.ensures ∙ ap₂ (asked_for c.args.commands.now) many few) c.modules.ensures (c.as_slice.ensures.value ∙ take_front c.in_ok-exchanges.exchanges.len c.trial-added.new.exchanges _ back) c.in_ok-text-in-Ok-added.ensures.ok c.in_ok-add_deepened-in-Ok-added.ensures c.in_ok-add_exchanges-in-Ok-added.ensures)
 
 pub returns : goal.returns
 returns c =
