@@ -1,5 +1,6 @@
 //! Reads a netlist file from standard input, deepens its queues for a target with the fewest added slots, makes a run of it as the
 //! arguments ask, and prints what was added, each request with its answer and where the run then stands, or why it is refused.
+use anyhow::anyhow;
 use report::{Request, fill};
 use std::env;
 use trace_text::{Command, parse, trace_text};
@@ -17,7 +18,7 @@ const USAGE: &str =
 fn number(word: Option<String>) -> anyhow::Result<u32> {
     match word {
         Some(text) => Ok(text.as_str().parse::<u32>()?),
-        None => Err(USAGE.into()),
+        None => Err(anyhow!(USAGE)),
     }
 }
 
@@ -30,7 +31,7 @@ fn arguments(rt: &HostRuntime) -> anyhow::Result<(Request, Vec<Command>)> {
     let allowance = number(words.next())? as usize;
     let list: Vec<String> = words.collect(rt.alloc())?;
     let Some(commands) = parse(rt.alloc(), list.as_slice())? else {
-        return Err(USAGE.into());
+        return Err(anyhow!(USAGE));
     };
     let request = Request {
         target: (a, b),
