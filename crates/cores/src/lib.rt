@@ -1,4 +1,6 @@
 //! The cores of a chip's blocks: what a set of cores must offer so that a chip can be run on it, and two sets for trials.
+#![tactic(auto)]
+
 mod core_set;
 mod number;
 mod origin;

@@ -1,5 +1,7 @@
 //! Reads damaged and full files, and prints what becomes of each. What it has to print is worked out by tools/file_cases.py, a reader
 //! of its own.
+#![tactic(auto)]
+
 mod files;
 mod outcome;
 

@@ -1,5 +1,7 @@
 //! Firing counts of marked graphs: what a step does, and how the counts after any steps are bound to
 //! the rate. Nothing here runs: each function stands for theorems, which its contract states.
+#![tactic(auto)]
+
 ghost use Rattle.std.specs.Prelude.{◌≡◌, ℕ, ◌+◌, ◌-◌, ◌*◌, ◌≤◌, false, List, [], ◌∷◌, length, replicate, ℤ};
 ghost use Rattle.marked.specs.declared.place.Place.{Place};
 ghost use Rattle.marked.specs.Answers.{Measured};

@@ -1,5 +1,7 @@
 //! Marked graphs: modules joined by places that hold tokens, the cycles that are slow for a target,
 //! and the rate that the slowest cycle sets.
+#![tactic(auto)]
+
 mod graph;
 mod laws;
 mod level;

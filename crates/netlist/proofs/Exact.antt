@@ -3,7 +3,7 @@ use Rattle.std.proofs.Common.{◌≡◌, ℕ, List, length, Ok, Err, Result, ref
 use Rattle.netlist.specs.declared.flaw.Flaw.{Flaw}
 use Rattle.netlist.specs.Faults.{contents, placed, verdict}
 use Rattle.netlist.specs.Laws.{ReadBack, SaidExactly}
-use Rattle.netlist.specs.Layout.{Contents, Says, layout}
+use Rattle.netlist.specs.Layout.{Contents, Says}
 use Rattle.netlist.proofs.Laid.{reads_back}
 use Rattle.netlist.proofs.Said.{said}
 

@@ -1,5 +1,5 @@
 -- The netlist and the sizing that are filled.
-use Rattle.std.proofs.Common.{◌≡◌, ℕ, ◌+◌, ◌-◌, ◌<◌, ◌≤◌, ◌≢◌, List, map, length, get_or, set, Ok, Result, refl, ap, ◌∙◌, arith, get_or-set_other, get_or-set_same, below_more, le-leb}
+use Rattle.std.proofs.Common.{◌≡◌, ℕ, ◌+◌, ◌<◌, ◌≤◌, ◌≢◌, List, map, length, get_or, set, Ok, Result, refl, ap, ◌∙◌, arith, get_or-set_other, get_or-set_same, below_more, le-leb}
 use Rattle.std.proofs.lemmas.List.{length-map}
 use Rattle.netlist.specs.declared.netlist.Module.{Module}
 use Rattle.netlist.specs.declared.channel.Channel.{Channel}

@@ -1,5 +1,5 @@
 -- What was gathered, and what is coming.
-use Rattle.std.proofs.Common.{◌≡◌, ℕ, ◌+◌, ◌-◌, ◌<◌, ◌≤◌, List, [], ◌∷◌, ◌++◌, map, length, Some, Ok, Err, string_bytes, Option, Result, refl, subst, append_assoc, append-nil, arith, length-append, Bor}
+use Rattle.std.proofs.Common.{◌≡◌, ℕ, ◌+◌, ◌<◌, ◌≤◌, List, [], ◌∷◌, ◌++◌, map, length, Some, Ok, Err, string_bytes, Option, Result, refl, subst, append_assoc, append-nil, arith, length-append, Bor}
 use Rattle.netlist.specs.declared.record.Record.{Record}
 use Rattle.netlist.specs.Faults.{before, join, nothing, verdict}
 use Rattle.netlist.specs.declared.refusal.Refusal.{Refusal}

@@ -1,12 +1,12 @@
 -- What a file that is read without a flaw holds is valid, and the file is its layout.
-use Rattle.std.proofs.Common.{◌≡◌, ℕ, zero, suc, ◌+◌, ◌-◌, ◌*◌, ◌/◌, ◌%◌, ◌≤◌, Bool, true, ◌||◌, eqb, ◌⊎◌, List, [], ◌∷◌, ◌++◌, length, Ok, Err, Result, refl, ap, ◌∙◌, append_assoc, arith}
+use Rattle.std.proofs.Common.{◌≡◌, ℕ, zero, suc, ◌+◌, ◌*◌, ◌/◌, ◌%◌, ◌≤◌, Bool, true, ◌||◌, eqb, ◌⊎◌, List, [], ◌∷◌, ◌++◌, length, Ok, Err, Result, refl, ap, ◌∙◌, append_assoc, arith}
 use Rattle.std.proofs.lemmas.Bool.Decides.{nat_tests}
 use Rattle.std.specs.Int.{IsInRange, is_in_range}
 use Rattle.std.specs.List.{AllByRecursion as All}
 use Rattle.netlist.specs.declared.flaw.Flaw.{Flaw}
 use Rattle.netlist.specs.declared.channel.Channel.{Channel}
 use Rattle.netlist.specs.Faults.{one_channel, one_module, one_size, before, byte, channel, channels, contents, count, entry, join, kind_of, modules, name, nothing, sizes}
-use Rattle.netlist.specs.Layout.{Contents, Entry, Says, channel_bytes, kind_byte, layout, module_bytes, two}
+use Rattle.netlist.specs.Layout.{Contents, Entry, Says, channel_bytes, kind_byte, module_bytes, two}
 use Rattle.netlist.specs.Limits.{Named}
 use Rattle.netlist.proofs.Sound.{NameOk, byte_ok, channel_ok, name_ok, ok_parts, passed, then_ok, within_in}
 

@@ -1,4 +1,6 @@
 //! Netlists of cores in shells, relay stations and channels, the file that holds one, and why a call refuses.
+#![tactic(auto)]
+
 mod channel;
 mod flaw;
 mod fresh;
