@@ -1,5 +1,5 @@
 -- A list of calls is a list of steps of the extended graph, with the modules that are held in each. Assumes nothing.
-use Rattle.std.proofs.Common.{◌≡◌, ℕ, zero, suc, ◌+◌, ◌-◌, ◌<◌, ◌≤◌, Bool, true, false, cond, ◌||◌, List, [], ◌∷◌, length, get_or, Some, None, Option, sym, refl, ap, ◌∙◌, subst, arith}
+use Rattle.std.proofs.Common.{◌≡◌, ℕ, zero, suc, ◌-◌, ◌<◌, Bool, false, ◌||◌, List, [], ◌∷◌, length, get_or, Some, None, Option, sym, refl, ap, ◌∙◌, arith}
 use Rattle.std.specs.Int.{IsInRange}
 use Rattle.netlist.specs.declared.refusal.Refusal.{Refusal}
 use Rattle.netlist.specs.declared.netlist.Netlist.{Netlist}
@@ -8,7 +8,7 @@ use Rattle.firing.specs.Firings.{Hold, holding, held_steps}
 use Rattle.firing.specs.Firings.{firings as firings_there}
 use Rattle.rating.specs.Extended.{graph_of}
 use Rattle.rating.specs.Sizings.{sizing_fault}
-use Rattle.counts.specs.Nets.{Net, net_of}
+use Rattle.counts.specs.Nets.{net_of}
 use Rattle.counts.proofs.Bridges.{step_agrees}
 use Rattle.calls.specs.Calls.{Call, Count, after, any, at_first, counted, counted_from, done, fill, firings, front, hold, prime, refusal, step, unless}
 

@@ -1,12 +1,10 @@
 -- The bounds of the extended graph, said of lists of calls. Assumes nothing.
-use Rattle.std.proofs.Common.{◌≡◌, ℕ, suc, ◌+◌, ◌-◌, ◌*◌, ◌<◌, ◌≤◌, List, length, replicate, sym, refl, ap, ◌∙◌, subst, inl, inr, ⊎_elim, arith}
+use Rattle.std.proofs.Common.{ℕ, ◌+◌, ◌-◌, ◌*◌, ◌<◌, List, length, ⊎_elim, arith}
 use Rattle.std.proofs.lemmas.Bool.{cases_lt}
-use Rattle.std.specs.Int.{IsInRange}
 use Rattle.netlist.specs.Holds.{modules}
-use Rattle.marked.specs.Graphs.{Cycle, Reaches, tokens_on}
+use Rattle.marked.specs.Graphs.{Cycle, tokens_on}
 use Rattle.rating.specs.Extended.{graph_of}
-use Rattle.firing.specs.Firings.{free, held_steps}
-use Rattle.firing.specs.Firings.{firings as firings_there}
+use Rattle.firing.specs.Firings.{held_steps}
 use Rattle.firing.proofs.Steps.{behind}
 use Rattle.firing.proofs.Steps.{no_setback as setback_there}
 use Rattle.firing.proofs.Lower.{lower, reached}

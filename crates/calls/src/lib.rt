@@ -1,5 +1,7 @@
 //! What the calls of a run come to, counted from the netlist and the sizing alone, and the bounds that these counts keep to.
 //! Nothing here runs: each function stands for theorems, which its contract states.
+#![tactic(auto)]
+
 ghost use Rattle.calls.specs.Laws.{KeepsItsRate, KeepsTargets, MissesTargets, NoSetback, NotBehind, OriginsAreMet};
 
 /// In a checked netlist every channel's items come from one block, through relay stations alone.

@@ -1,3 +1,5 @@
 //! What the check says of small netlists, and of full ones.
+#![tactic(auto)]
+
 #[cfg(test)]
 mod tests;

@@ -1,4 +1,6 @@
 //! The check that a netlist passes before anything is asked of it, and what it then promises.
+#![tactic(auto)]
+
 mod apart;
 mod checked;
 mod link;

@@ -1,5 +1,5 @@
 -- Which part of the item table a channel owns, and which block a channel's items come from. Assumes nothing.
-use Rattle.std.specs.Prelude.{◌≡◌, ℕ, zero, suc, ◌+◌, ◌<◌, ◌≤◌, Bool, true, false, cond, ◌==◌}
+use Rattle.std.specs.Prelude.{◌≡◌, ℕ, zero, suc, ◌+◌, ◌<◌, ◌≤◌, true, false, cond, ◌==◌}
 use Rattle.counts.specs.Nets.{Net, first_items}
 
 -- the entries of the item table before those of the channel at place e: each channel has one more than its queue size

@@ -1,4 +1,6 @@
 //! Firing counts of a netlist under a sizing. Nothing here runs: each function stands for theorems, which its contract states.
+#![tactic(auto)]
+
 ghost use Rattle.std.specs.Prelude.{◌≡◌, ℕ, ◌<◌, ◌≤◌, true};
 ghost use Rattle.counts.specs.Nets.{Net};
 ghost use Rattle.counts.specs.Steps.{fill, is_ready};

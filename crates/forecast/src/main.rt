@@ -1,5 +1,7 @@
 //! Reads a netlist file from standard input, and prints how often each module will have fired after so many free steps under the
 //! file's own sizing, or why it is refused.
+#![tactic(auto)]
+
 use anyhow::anyhow;
 use report::{fill, forecast_text};
 use std::env;

@@ -1,5 +1,7 @@
 //! Foretells small and full netlists, and prints what becomes of each. What it has to print is worked out by
 //! tools/forecast_cases.py, a model of its own that moves the items of the queues step by step.
+#![tactic(auto)]
+
 mod outcome;
 
 use crate::outcome::outcome;

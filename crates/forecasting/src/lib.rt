@@ -1,4 +1,6 @@
 //! How often each module of a checked netlist will have fired after so many free steps.
+#![tactic(auto)]
+
 mod forecasts;
 mod weights;
 

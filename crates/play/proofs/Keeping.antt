@@ -1,5 +1,5 @@
 -- From what the run says of its records to what is promised of it. Assumes nothing.
-use Rattle.std.proofs.Common.{◌≡◌, ℕ, ◌+◌, ◌-◌, ◌%◌, ◌<◌, ◌≤◌, true, false, List, length, get_or, sym, refl, ap, ◌∙◌, subst, ap₂, arith}
+use Rattle.std.proofs.Common.{◌≡◌, ℕ, ◌+◌, ◌-◌, ◌%◌, ◌<◌, true, List, length, get_or, sym, refl, ap, ◌∙◌, subst, ap₂, arith}
 use Rattle.std.specs.Int.{IsInRange}
 use Rattle.cores.specs.Rules.{Rules}
 use Rattle.netlist.specs.declared.netlist.Netlist.{Netlist}

@@ -1,12 +1,12 @@
 -- A call that is lent a part of the item table. Assumes nothing.
-use Rattle.std.proofs.Common.{◌≡◌, ℕ, zero, suc, ◌+◌, ◌-◌, ◌<◌, ◌≤◌, Bool, true, false, cond, ltb, leb, List, [], ◌∷◌, ◌++◌, length, get_or, take, drop, IfErr, Some, None, Ok, Err, Option, Result, sym, refl, ap, ◌∙◌, subst, subst₂, inl, inr, arith, take-append-drop}
+use Rattle.std.proofs.Common.{◌≡◌, ℕ, zero, suc, ◌-◌, ◌<◌, ◌≤◌, Bool, true, false, cond, ltb, leb, List, [], ◌∷◌, ◌++◌, length, get_or, take, drop, IfErr, Some, None, Option, Result, sym, refl, ap, ◌∙◌, subst, subst₂, inl, inr, arith, take-append-drop}
 use Rattle.std.specs.List.{between}
 use Rattle.std.proofs.lemmas.List.{get_or_append_left}
 use Rattle.std.proofs.lemmas.List.Edits.{length-between, get_or-between}
 use Rattle.std.proofs.lemmas.Bool.{ltb-false, cases_lt}
 use Rattle.cores.specs.Rules.{Rules}
 use Rattle.netlist.specs.declared.refusal.Refusal.{Refusal}
-use Rattle.calls.specs.Calls.{Call, Count, done, entries, front, prime, put, refusal, short_table, spent, step, out_of_turn, unless}
+use Rattle.calls.specs.Calls.{Count, entries, front, prime, put, refusal, short_table, spent, step, out_of_turn, unless}
 use Rattle.queues.specs.Stands.{items}
 use Rattle.queues.specs.Strict.{Chip}
 use Rattle.queues.proofs.Tables.{behind_all}

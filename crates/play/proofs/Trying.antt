@@ -1,5 +1,5 @@
 -- A run under a sizing that was found, and the candidates that were not. Assumes nothing.
-use Rattle.std.proofs.Common.{◌≡◌, ℕ, ◌*◌, ◌<◌, ◌≤◌, Bool, true, false, cond, ◌||◌, ltb, ◌⊎◌, List, length, Some, None, Err, Option, sym, refl, ap, ◌∙◌, subst, subst₂, inl, inr, ⊎_elim, arith}
+use Rattle.std.proofs.Common.{◌≡◌, ℕ, ◌*◌, ◌<◌, ◌≤◌, List, length, Some, None, Err, Option, sym, refl, ◌∙◌, subst₂, ⊎_elim, arith}
 use Rattle.std.proofs.lemmas.Bool.{le-ltb}
 use Rattle.std.specs.Int.{IsInRange}
 use Rattle.cores.specs.Rules.{Rules}
@@ -10,7 +10,7 @@ use Rattle.checking.specs.Verdicts.{Passed}
 use Rattle.marked.specs.Rates.{IsRate}
 use Rattle.rating.specs.declared.rating.Rating.{Rating}
 use Rattle.rating.specs.Extended.{graph_of}
-use Rattle.rating.specs.Ratings.{HoldsRate, rating_fault, with_rooms}
+use Rattle.rating.specs.Ratings.{HoldsRate, rating_fault}
 use Rattle.rating.specs.Sizings.{sizing_fault}
 use Rattle.counts.specs.Nets.{net_of}
 use Rattle.calls.specs.Laws.{KeepsUp}

@@ -1,5 +1,5 @@
 -- What the requests of a list are answered, each from the calls before it alone. Assumes nothing.
-use Rattle.std.specs.Prelude.{ℕ, ◌-◌, min, cond, List, [], ◌∷◌, Some, None, Ok, Err, Option, Result}
+use Rattle.std.specs.Prelude.{ℕ, ◌-◌, min, List, [], ◌∷◌, Some, None, Ok, Err, Option, Result}
 use Rattle.netlist.specs.declared.refusal.Refusal.{Refusal}
 use Rattle.calls.specs.Calls.{Call, Count, after, at_first, fill, fill_of, firings, front, hold, prime, refusal, step}
 use Rattle.queues.specs.Strict.{Chip}

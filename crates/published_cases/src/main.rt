@@ -1,6 +1,8 @@
 //! Published netlists, full tables and each refusal, through the public calls; prints a line a case. What it has to print is worked out by
 //! tools/published_cases.py, a model of its own. Which of several smallest sizings is found is open, so what it adds and reaches is
 //! printed, and the queues only where there is one such sizing.
+#![tactic(auto)]
+
 mod asked;
 mod cycle;
 mod family;

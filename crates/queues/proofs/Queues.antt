@@ -1,10 +1,10 @@
 -- One channel: an item taken, an item put. Assumes nothing.
-use Rattle.std.proofs.Common.{◌≡◌, ℕ, ◌+◌, ◌-◌, ◌*◌, ◌/◌, ◌%◌, ◌<◌, ◌≤◌, Bool, true, ◌≢◌, ◌⊎◌, List, length, get_or, set, sym, refl, ap, ◌∙◌, subst, inl, inr, mul-le-mul_left, arith, get_or-set_other, get_or-set_same}
+use Rattle.std.proofs.Common.{◌≡◌, ℕ, ◌+◌, ◌-◌, ◌/◌, ◌%◌, ◌<◌, ◌≤◌, Bool, true, ◌≢◌, List, length, get_or, set, sym, ap, ◌∙◌, inl, inr, mul-le-mul_left, arith, get_or-set_other, get_or-set_same}
 use native.Mathlib.Nat.{mod-add-mod, div-add-mod}
 use Rattle.std.proofs.lemmas.Nat.{mod_below}
 use Rattle.std.proofs.lemmas.Bool.{cases_lt}
 use Rattle.queues.specs.declared.queue.Queue.{Queue}
-use Rattle.queues.specs.Holds.{Sound, Alike, Holds}
+use Rattle.queues.specs.Holds.{Holds}
 
 -- Two numbers that are less than m apart have different rests.
 pub mod_apart : (m i j : ℕ) → i < j → j < i + m → i % m ≢ j % m

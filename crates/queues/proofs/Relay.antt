@@ -1,8 +1,8 @@
 -- The firing of a relay station. Assumes nothing.
-use Rattle.std.proofs.Common.{◌≡◌, ℕ, ◌+◌, ◌<◌, ◌≤◌, Bool, true, false, cond, eqb, ◌⊎◌, List, sym, refl, ap, ◌∙◌, subst, inl, inr, arith}
+use Rattle.std.proofs.Common.{◌≡◌, ℕ, ◌+◌, ◌<◌, Bool, true, cond, eqb, List, sym, ap, ◌∙◌, subst, inl, inr, arith}
 use Rattle.std.proofs.lemmas.Bool.{eq-eqb, ne_eqb, cases_eq}
 use Rattle.queues.specs.declared.channels.Channels.{Channels}
-use Rattle.queues.specs.Flows.{Kept, Flows, Opens, Sole, bump, more, first, from, into, queue_at}
+use Rattle.queues.specs.Flows.{Kept, Flows, Opens, Sole, bump, more, from, into, queue_at}
 use Rattle.queues.proofs.Turns.{flows_ext}
 
 module _ (w₀ : Channels) (v d : ℕ) (sole : Sole w₀ v d) where

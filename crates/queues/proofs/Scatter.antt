@@ -1,8 +1,7 @@
 -- The loop that puts one item into each channel from a module. Assumes nothing.
-use Rattle.std.proofs.Common.{◌≡◌, ℕ, ◌+◌, ◌<◌, ◌≤◌, Bool, true, false, eqb, List, length, sym, refl, ap, ◌∙◌, subst, arith}
+use Rattle.std.proofs.Common.{◌≡◌, ℕ, ◌+◌, ◌<◌, ◌≤◌, Bool, true, List, length, sym, refl, ap, ◌∙◌, arith}
 use Rattle.std.proofs.lemmas.Bool.{eq-eqb, ne_eqb}
 use Rattle.queues.specs.declared.channels.Channels.{Channels}
-use Rattle.queues.specs.Holds.{Holds}
 use Rattle.queues.specs.Flows.{Laid, Kept, Flows, Opens, bump, more, first, from, queue_at}
 use Rattle.queues.proofs.Replacing.{kept_refl, kept_trans}
 use Rattle.queues.proofs.Turns.{flows_ext, more_none, more_all, more_here, more_on, more_off}

@@ -1,5 +1,5 @@
 -- The loop that puts the reset items. Assumes nothing.
-use Rattle.std.proofs.Common.{◌≡◌, ℕ, ◌+◌, ◌-◌, ◌<◌, ◌≤◌, Bool, true, false, List, length, get_or, sym, refl, ap, ◌∙◌, subst, arith}
+use Rattle.std.proofs.Common.{◌≡◌, ℕ, ◌+◌, ◌-◌, ◌<◌, ◌≤◌, Bool, true, false, List, length, get_or, sym, refl, ap, ◌∙◌, arith}
 use Rattle.queues.specs.declared.channels.Channels.{Channels}
 use Rattle.queues.specs.Flows.{Laid, Kept, Flows, Starts, bump, more, first, by_block, queue_at}
 use Rattle.queues.proofs.Replacing.{kept_refl, kept_trans}

@@ -1,13 +1,13 @@
 -- The firing of one module, against the strict machine. Assumes nothing.
-use Rattle.std.proofs.Common.{◌≡◌, ℕ, zero, suc, ◌+◌, ◌<◌, ◌≤◌, Bool, true, false, cond, eqb, ◌≢◌, ◌⊎◌, List, length, sym, refl, ap, ◌∙◌, subst, ap₂, inl, inr, add-zero, add-one, arith}
+use Rattle.std.proofs.Common.{◌≡◌, ℕ, zero, suc, ◌+◌, ◌<◌, ◌≤◌, Bool, true, false, cond, eqb, ◌≢◌, List, sym, refl, ap, ◌∙◌, subst, ap₂, inl, inr, add-zero, add-one, arith}
 use mathlib.Core.Path.{fun_ext}
-use Rattle.std.proofs.lemmas.Bool.{eq-eqb, ne_eqb, cases_eq, both_ways}
+use Rattle.std.proofs.lemmas.Bool.{ne_eqb, cases_eq, both_ways}
 use Rattle.cores.specs.Rules.{Rules}
 use Rattle.queues.specs.declared.channels.Channels.{Channels}
 use Rattle.counts.specs.Nets.{Net}
-use Rattle.counts.specs.Origins.{Lawful, Enabled, puts, origin}
-use Rattle.queues.specs.Strict.{Chip, Moment, intake, fed, strict}
-use Rattle.queues.specs.Flows.{Laid, Kept, Flows, Opens, Feeds, Sole, bump, more, first, into, from, queue_at}
+use Rattle.counts.specs.Origins.{Enabled, puts, origin}
+use Rattle.queues.specs.Strict.{Chip, intake, fed, strict}
+use Rattle.queues.specs.Flows.{Kept, Flows, Opens, Feeds, Sole, bump, more, into, from, queue_at}
 use Rattle.queues.specs.Stands.{Matches, Stands, items}
 use Rattle.queues.proofs.Replacing.{bump_same, bump_other}
 use Rattle.queues.proofs.Turns.{flows_ext}

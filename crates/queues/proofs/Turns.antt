@@ -1,9 +1,9 @@
 -- A loop over the channels that touches those that pass a test: one turn more, and the end. Assumes nothing.
-use Rattle.std.proofs.Common.{◌≡◌, ℕ, ◌+◌, ◌-◌, ◌<◌, ◌≤◌, Bool, true, false, cond, ◌&&◌, eqb, ltb, ◌≢◌, ◌⊎◌, List, sym, refl, ap, ◌∙◌, subst, ap₂, inl, inr, add-zero, arith}
-use Rattle.std.proofs.lemmas.Bool.{cases_eq, cases_order, eq-eqb, ne_eqb, lt-ltb, le-ltb}
+use Rattle.std.proofs.Common.{◌≡◌, ℕ, ◌+◌, ◌<◌, ◌≤◌, Bool, true, false, cond, ◌&&◌, List, sym, refl, ap, ◌∙◌, subst, ap₂, inl, inr, add-zero, arith}
+use Rattle.std.proofs.lemmas.Bool.{cases_order, eq-eqb, ne_eqb, lt-ltb, le-ltb}
 use Rattle.queues.specs.declared.channels.Channels.{Channels}
-use Rattle.queues.specs.Holds.{Sound, Alike, Holds}
-use Rattle.queues.specs.Flows.{Laid, Kept, Flows, Opens, bump, more, first, from, into, queue_at}
+use Rattle.queues.specs.Holds.{Holds}
+use Rattle.queues.specs.Flows.{Flows, bump, more, first, queue_at}
 
 pub flows_ext : {Item : Type 0} (w : Channels) (table : List Item) (ok : Bool) (before : List Item) (took took' put put' : ℕ → ℕ) (stream : ℕ → ℕ → Item)
     → ((e : ℕ) → e < w.count → took e ≡ took' e) → ((e : ℕ) → e < w.count → put e ≡ put' e) → Flows ok before w table took put stream → Flows ok before w table took' put' stream

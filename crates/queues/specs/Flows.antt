@@ -3,7 +3,7 @@ use Rattle.std.specs.Prelude.{◌≡◌, ℕ, ◌+◌, ◌-◌, ◌<◌, ◌≤�
 use Rattle.queues.specs.declared.queue.Queue.{Queue}
 use Rattle.queues.specs.declared.channels.Channels.{Channels}
 use Rattle.queues.specs.Holds.{Sound, Alike, Holds}
-use Rattle.counts.specs.Steps.{Ready, ready}
+use Rattle.counts.specs.Steps.{Ready}
 
 abbrev pub blank : Queue
 blank = record { source = 0; sink = 0; size = 0; base = 0; fill = 0; oldest = 0 }

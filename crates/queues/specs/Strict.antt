@@ -1,5 +1,5 @@
 -- The strict machine: blocks alone, with no queues. Assumes nothing.
-use Rattle.std.specs.Prelude.{ℕ, zero, suc, ◌+◌, Bool, true, false, cond, ◌==◌}
+use Rattle.std.specs.Prelude.{ℕ, zero, suc, cond, ◌==◌}
 use Rattle.cores.specs.Rules.{Rules}
 use Rattle.counts.specs.Nets.{Net}
 use Rattle.counts.specs.Origins.{origin}

@@ -1,4 +1,6 @@
 //! The channels of a chip as queues in one table of items, and the firing of a module on them.
+#![tactic(auto)]
+
 mod channels;
 mod fires;
 mod queue;

@@ -1,4 +1,6 @@
 //! Reads a netlist file from standard input, and prints its rating under its own sizing, or why it is refused.
+#![tactic(auto)]
+
 use report::{fill, rate_text};
 
 // More than any netlist file has: the longest is 1,734 bytes.

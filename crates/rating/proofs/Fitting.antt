@@ -1,5 +1,5 @@
 -- The extended graph keeps the limits of graphs.
-use Rattle.std.proofs.Common.{◌≡◌, ℕ, ◌-◌, ◌<◌, ◌≤◌, List, length, get_or, None, sym, subst₂, arith}
+use Rattle.std.proofs.Common.{◌≡◌, ℕ, ◌<◌, ◌≤◌, List, length, get_or, None, sym, subst₂, arith}
 use Rattle.std.proofs.ByRecursion.{All-get_or}
 use Rattle.std.specs.Int.{IsInRange}
 use Rattle.marked.specs.declared.place.Place.{Place}
@@ -9,7 +9,7 @@ use Rattle.netlist.specs.declared.kind.Kind.{Kind}
 use Rattle.netlist.specs.declared.kind.Kind.TheVariants.{Block, RelayStation}
 use Rattle.netlist.specs.declared.netlist.Netlist.{Netlist}
 use Rattle.netlist.specs.Holds.{channels, channels_of, kind_of, modules}
-use Rattle.rating.specs.Extended.{backward, extended, forward, graph_of, reset_items}
+use Rattle.rating.specs.Extended.{backward, forward, graph_of, reset_items}
 use Rattle.rating.specs.Sizings.{sizing_fault}
 use Rattle.rating.proofs.Places.{extended_all, length_extended}
 use Rattle.rating.proofs.Sizes.{sizing_fits}

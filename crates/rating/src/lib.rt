@@ -1,4 +1,6 @@
 //! The rate of a checked netlist under a sizing, with a slow cycle and potentials that show it.
+#![tactic(auto)]
+
 pub mod extend;
 mod numbers;
 mod rates;

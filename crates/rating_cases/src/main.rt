@@ -1,5 +1,7 @@
 //! Rates small and full netlists, and prints what becomes of each. What it has to print is worked out by tools/rating_cases.py, a
 //! model of its own. Which slow cycle a rating shows is open, so cycles are tested here and not printed.
+#![tactic(auto)]
+
 mod cycle;
 mod outcome;
 mod shape;

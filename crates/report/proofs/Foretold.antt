@@ -5,7 +5,7 @@ use Rattle.counts.specs.Steps.{freely}
 use Rattle.forecasting.specs.Forecasts.{Foretold}
 use Rattle.netlist.specs.declared.netlist.Module.{Module}
 use Rattle.netlist.specs.declared.netlist.Netlist.{Netlist}
-use Rattle.netlist.specs.Holds.{entry_of, modules}
+use Rattle.netlist.specs.Holds.{entry_of}
 use Rattle.report.specs.Forecasts.{count_line, counted, forecast_lines}
 use Rattle.report.specs.Lines.{numbered}
 use Rattle.report.proofs.Numbered.{numbered_map}

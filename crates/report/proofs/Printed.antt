@@ -1,5 +1,5 @@
 -- What is printed of a netlist, and of a file.
-use Rattle.std.proofs.Common.{◌≡◌, ℕ, ◌-◌, ◌<◌, ◌≤◌, ◌⊎◌, List, [], map, length, get_or, take, ℤ, IfOk, None, Ok, Err, vec_items, Result, sym, refl, ap, ◌∙◌, subst, inl, inr, ⊎_elim, arith, le-leb}
+use Rattle.std.proofs.Common.{◌≡◌, ℕ, ◌-◌, ◌<◌, ◌≤◌, List, [], map, length, get_or, take, ℤ, IfOk, None, Ok, Err, vec_items, Result, sym, refl, ap, ◌∙◌, subst, inl, inr, ⊎_elim, arith, le-leb}
 use native.Mathlib.Nat.{sub-zero}
 use Rattle.std.proofs.ByRecursion.{All-get_or}
 use Rattle.std.proofs.lemmas.List.{get_or_past, get_or-take, length-take-le}
@@ -8,7 +8,7 @@ use Rattle.netlist.specs.declared.netlist.Module.{Module}
 use Rattle.netlist.specs.declared.netlist.Netlist.{Netlist}
 use Rattle.netlist.specs.declared.refusal.Refusal.{Refusal}
 use Rattle.netlist.specs.Faults.{verdict}
-use Rattle.netlist.specs.Holds.{Filled, Holds, channels, entry_of, modules, whole_verdict, with_room}
+use Rattle.netlist.specs.Holds.{Filled, Holds, channels, entry_of, whole_verdict, with_room}
 use Rattle.netlist.specs.Layout.{Contents, Valid}
 use Rattle.netlist.proofs.Exact.{says_of}
 use Rattle.rating.specs.declared.rating.Rating.{Rating}

@@ -1,4 +1,6 @@
 //! The text that the programs print, made of a file's bytes so that it can be tested.
+#![tactic(auto)]
+
 mod forecasts;
 mod input;
 mod lines;

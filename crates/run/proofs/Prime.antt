@@ -4,7 +4,6 @@ use Rattle.std.proofs.lemmas.Bool.{true≢false}
 use Rattle.cores.specs.Rules.{Rules}
 use Rattle.counts.specs.Origins.{origin, puts}
 use Rattle.calls.specs.Calls.{Count, done, prime, put}
-use Rattle.queues.specs.declared.channels.Channels.{Channels}
 use Rattle.queues.specs.Flows.{Flows, Kept, Starts, by_block, more, queue_at}
 use Rattle.queues.specs.Stands.{items}
 use Rattle.queues.specs.Strict.{Chip, strict}

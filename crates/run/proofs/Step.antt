@@ -1,11 +1,10 @@
 -- A whole step, against the counts. Assumes nothing.
-use Rattle.std.proofs.Common.{◌≡◌, ℕ, ◌+◌, ◌-◌, ◌^◌, ◌<◌, ◌≤◌, Bool, true, false, cond, not, ◌&&◌, leb, List, get_or, sym, refl, ap, ◌∙◌, subst, arith}
+use Rattle.std.proofs.Common.{◌≡◌, ℕ, ◌+◌, ◌^◌, ◌<◌, ◌≤◌, Bool, true, false, cond, not, ◌&&◌, leb, List, get_or, sym, refl, ap, ◌∙◌, subst, arith}
 use Rattle.std.proofs.lemmas.Bool.Decides.{same_from_decides}
 use Rattle.std.proofs.lemmas.Bool.{and_parts, and_from, leb-true, le-leb, not-true, not_from_false, true≢false}
 use Rattle.cores.specs.Rules.{Rules}
-use Rattle.counts.specs.Nets.{Net}
-use Rattle.counts.specs.Origins.{Enabled, puts}
-use Rattle.counts.specs.Steps.{Ready, fill, fires, is_module, is_ready}
+use Rattle.counts.specs.Origins.{puts}
+use Rattle.counts.specs.Steps.{Ready, fill, fires, is_ready}
 use Rattle.counts.proofs.Readiness.{tests_ready}
 use Rattle.calls.specs.Calls.{Count, done, put, step}
 use Rattle.queues.specs.declared.channels.Channels.{Channels}

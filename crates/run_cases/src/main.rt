@@ -1,5 +1,7 @@
 //! Plays lists of calls on small, full and random netlists over both sets of cores, and prints what becomes of each. What it has to print
 //! is worked out by tools/run_cases.py, a model of its own.
+#![tactic(auto)]
+
 mod case;
 mod long_run;
 mod marks;

@@ -1,4 +1,6 @@
 // Walks over modules, counted on a scale of the caller's choosing.
+#![tactic(auto)]
+
 pub mod elements;
 pub mod least_total;
 pub mod rounds;

@@ -1,5 +1,7 @@
 //! Reads a netlist file from standard input, deepens its queues for a target with the fewest added slots, and prints what it added and
 //! the rating then, or why it is refused.
+#![tactic(auto)]
+
 use anyhow::anyhow;
 use report::{Request, fill, size_text};
 use std::env;

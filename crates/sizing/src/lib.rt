@@ -1,4 +1,6 @@
 //! The fewest slots that bring a checked netlist to a target rate.
+#![tactic(auto)]
+
 mod aim;
 mod bounds;
 mod deepened;

@@ -1,5 +1,7 @@
 //! Sizes small and full netlists, and prints what becomes of each. What it has to print is worked out by tools/sizing_cases.py, a model
 //! of its own. Which of several smallest sizings is found is open, so a sizing is tested here, and printed only where it is the only one.
+#![tactic(auto)]
+
 mod cases;
 mod hard;
 mod outcome;

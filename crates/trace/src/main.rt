@@ -1,5 +1,7 @@
 //! Reads a netlist file from standard input, deepens its queues for a target with the fewest added slots, makes a run of it as the
 //! arguments ask, and prints what was added, each request with its answer and where the run then stands, or why it is refused.
+#![tactic(auto)]
+
 use anyhow::anyhow;
 use report::{Request, fill};
 use std::env;

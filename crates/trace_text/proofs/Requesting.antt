@@ -5,7 +5,7 @@ use Rattle.play.specs.declared.exchange.Answer.TheVariants.{Open}
 use Rattle.play.specs.declared.exchange.Exchange.{Exchange}
 use Rattle.play.specs.declared.exchange.Request.{Request}
 use Rattle.trace_text.specs.declared.command.Command.{Command}
-use Rattle.trace_text.specs.Lines.{asked_for, count_of, exchanges_in, exchanges_of, questions, request_of}
+use Rattle.trace_text.specs.Lines.{count_of, exchanges_in, exchanges_of, questions, request_of}
 
 pub append-nil : {X : Type 0} (xs : List X) → xs ≡ xs ++ []
 append-nil [] = refl

@@ -1,4 +1,6 @@
 //! What a trace asks of a run and the text that it prints, made of the arguments' words and a file's bytes so that it can be tested.
+#![tactic(auto)]
+
 mod answers;
 mod command;
 mod parsing;

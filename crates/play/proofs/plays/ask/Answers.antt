@@ -1,4 +1,4 @@
-use Rattle.std.proofs.Common.{◌≡◌, ℕ, ◌-◌, Bool, true, false, List, ◌++◌, length, drop, Option, Result, sym, refl, ap, ◌∙◌, subst, rules}
+use Rattle.std.proofs.Common.{◌≡◌, ℕ, ◌-◌, true, false, ◌++◌, length, drop, Option, Result, sym, ap, ◌∙◌, subst}
 use Rattle.std.specs.List.{between}
 use Rattle.netlist.specs.declared.refusal.Refusal.{Refusal}
 use Rattle.calls.specs.Calls.{Call, Count, after, done, fill, firings, front, hold, prime, refusal, step}

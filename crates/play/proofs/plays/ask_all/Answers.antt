@@ -1,4 +1,4 @@
-use Rattle.std.proofs.Common.{◌≡◌, ℕ, true, List, [], ◌++◌, length, get_or, take, drop, sym, refl, ap, ◌∙◌, subst, ap₂, take_all, rules}
+use Rattle.std.proofs.Common.{◌≡◌, true, List, [], ◌++◌, length, get_or, take, drop, sym, refl, ap, ◌∙◌, subst, ap₂, take_all}
 use Rattle.std.proofs.lemmas.List.{drop_all}
 use Rattle.calls.specs.Calls.{Count, after, counted_from}
 use Rattle.run.specs.Tells.{Tells}

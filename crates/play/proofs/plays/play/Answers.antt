@@ -1,4 +1,4 @@
-use Rattle.std.proofs.Common.{◌≡◌, true, List, length, sym, refl, ap, ◌∙◌, subst, rules}
+use Rattle.std.proofs.Common.{List, length, sym, ap, ◌∙◌, subst}
 use Rattle.calls.specs.Calls.{Call, at_first}
 use Rattle.run.specs.Making.{chip_of}
 use Rattle.play.specs.Answers.{calls_of}

@@ -1,5 +1,4 @@
-use Rattle.std.proofs.Common.{◌≡◌, ℕ, ◌+◌, ◌<◌, ◌≤◌, Bool, true, false, List, sym, refl, ap, ◌∙◌, subst, arith, rules}
-use Rattle.queues.specs.declared.channels.Channels.{Channels}
+use Rattle.std.proofs.Common.{◌≡◌, ℕ, ◌<◌, true, false, sym, ap, ◌∙◌, subst}
 use Rattle.counts.specs.Origins.{puts}
 use Rattle.queues.specs.Flows.{Flows, Opens, Sole, more, into, from}
 use Rattle.queues.specs.Stands.{items}

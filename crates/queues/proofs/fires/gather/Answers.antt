@@ -1,4 +1,4 @@
-use Rattle.std.proofs.Common.{◌≡◌, ℕ, ◌+◌, ◌<◌, ◌≤◌, Option, sym, refl, ap, ◌∙◌, subst, subst₂, arith, rules}
+use Rattle.std.proofs.Common.{◌+◌, Option, sym, ◌∙◌, subst, subst₂, arith}
 use Rattle.queues.specs.Holds.{Gives}
 use Rattle.queues.specs.declared.channels.Channels.{Channels}
 use Rattle.queues.proofs.Gather.{Gathered, gathered_none, gathered_on, gathered_off, gathered_lost, gathered_all}

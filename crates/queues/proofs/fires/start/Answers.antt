@@ -1,6 +1,6 @@
-use Rattle.std.proofs.Common.{◌≡◌, ℕ, ◌+◌, ◌-◌, ◌<◌, ◌≤◌, Bool, true, false, List, get_or, sym, refl, ap, ◌∙◌, subst, subst₂, arith, rules}
+use Rattle.std.proofs.Common.{◌≡◌, ◌+◌, ◌-◌, false, List, get_or, sym, ap, ◌∙◌, subst₂}
 use Rattle.queues.specs.declared.channels.Channels.{Channels}
-use Rattle.queues.specs.Flows.{queue_at, by_block}
+use Rattle.queues.specs.Flows.{queue_at}
 use Rattle.queues.proofs.Starting.{Started, started_none, started_on, started_off, started_lost, started_all}
 use Rattle.queues.proofs.fires.start.Goals as goal
 use Rattle.queues.proofs.fires.start.Goals.{in-Some+then-blocks-index, in-Some+else-blocks-index, in_default}

@@ -1,4 +1,4 @@
-use Rattle.std.proofs.Common.{◌-◌, ◌<◌, length, refl, ap, ◌∙◌, subst, arith, below_more}
+use Rattle.std.proofs.Common.{◌<◌, length, refl, ap, ◌∙◌, subst, arith, below_more}
 use Rattle.sizing.specs.Candidates.{Reaching}
 use Rattle.sizing.proofs.Deeper.{found_covers}
 use Rattle.sizing.proofs.Readying.{ready_raised}

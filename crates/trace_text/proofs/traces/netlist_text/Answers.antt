@@ -1,4 +1,4 @@
-use Rattle.std.proofs.Common.{◌≡◌, ℕ, length, vec_items, sym, refl, ap, ◌∙◌, subst, ap₂, inl, inr, arith, rules}
+use Rattle.std.proofs.Common.{◌≡◌, length, vec_items, sym, ap, ◌∙◌, ap₂, inl, inr, arith, rules}
 use Rattle.report.proofs.Printed.{made_of}
 use Rattle.trace_text.specs.Lines.{asked_for}
 use Rattle.trace_text.proofs.Tracing.{asked_long, found_of, refused_so, refuses_of, take_front, traced}

@@ -1,4 +1,4 @@
-use Rattle.std.proofs.Common.{length, refl, ap, ◌∙◌, arith, rules}
+use Rattle.std.proofs.Common.{length, ap, ◌∙◌, arith, rules}
 use Rattle.report.specs.Lines.{refused}
 use Rattle.report.proofs.Printed.{file_text, made_of, refused_text}
 use Rattle.trace_text.proofs.traces.trace_text.Goals as goal

@@ -1,5 +1,5 @@
-use Rattle.std.proofs.Common.{◌≡◌, ℕ, ◌+◌, ◌%◌, ◌<◌, ◌≤◌, length, sym, refl, ap, subst, arith, rules}
-use Rattle.queues.specs.Flows.{queue_at, Laid}
+use Rattle.std.proofs.Common.{◌≡◌, ℕ, ◌<◌, length, sym, subst, arith, rules}
+use Rattle.queues.specs.Flows.{Laid}
 use Rattle.queues.proofs.Replacing.{laid_lent, kept_lent, flows_put}
 use Rattle.queues.proofs.channels.Channels.put.Goals as goal
 

@@ -1,4 +1,4 @@
-use Rattle.std.proofs.Common.{◌≡◌, ℕ, ◌+◌, ◌<◌, ◌≤◌, Some, None, Option, sym, refl, ap, ◌∙◌, subst, arith, rules}
+use Rattle.std.proofs.Common.{◌≡◌, ℕ, ◌<◌, Some, Option, sym, ap, ◌∙◌, subst}
 use Rattle.queues.specs.Holds.{Gives}
 use Rattle.queues.specs.Flows.{Flows, bump}
 use Rattle.queues.proofs.Replacing.{kept_trans}

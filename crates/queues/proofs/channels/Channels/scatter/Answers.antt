@@ -1,4 +1,4 @@
-use Rattle.std.proofs.Common.{◌≡◌, ℕ, ◌+◌, ◌<◌, ◌≤◌, List, sym, refl, ap, ◌∙◌, subst₂, arith, rules}
+use Rattle.std.proofs.Common.{◌+◌, List, sym, subst₂}
 use Rattle.queues.specs.declared.channels.Channels.{Channels}
 use Rattle.queues.proofs.Scatter.{Scattered, scattered_none, scattered_on, scattered_off, scattered_all}
 use Rattle.queues.proofs.channels.Channels.scatter.Goals as goal

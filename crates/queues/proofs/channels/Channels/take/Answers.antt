@@ -1,5 +1,4 @@
-use Rattle.std.proofs.Common.{◌≡◌, ℕ, ◌+◌, ◌%◌, ◌<◌, ◌≤◌, length, refl, ap, arith, rules}
-use Rattle.queues.specs.Flows.{queue_at}
+use Rattle.std.proofs.Common.{◌<◌, length, rules}
 use Rattle.queues.proofs.Replacing.{laid_lent, kept_lent, flows_take}
 use Rattle.queues.proofs.channels.Channels.take.Goals as goal
 

@@ -1,4 +1,4 @@
-use Rattle.std.proofs.Common.{◌≡◌, ℕ, ◌+◌, ◌%◌, ◌<◌, ◌≤◌, Some, refl, ap, arith, rules}
+use Rattle.std.proofs.Common.{◌+◌, ◌%◌, ◌<◌, refl, arith}
 use Rattle.std.proofs.lemmas.Nat.{mod_below}
 use Rattle.queues.proofs.Queues.{front, pop_holds}
 use Rattle.queues.proofs.queue.Queue.pop.Goals as goal

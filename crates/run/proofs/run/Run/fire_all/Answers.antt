@@ -1,9 +1,9 @@
-use Rattle.std.proofs.Common.{◌≡◌, ℕ, ◌+◌, ◌<◌, ◌≤◌, Bool, true, false, List, length, get_or, sym, refl, ap, ◌∙◌, subst, subst₂, arith, rules}
+use Rattle.std.proofs.Common.{◌≡◌, ℕ, ◌+◌, ◌<◌, false, List, length, get_or, sym, ap, subst, subst₂, arith, rules}
 use Rattle.run.specs.declared.run.Run.{Run}
 use Rattle.counts.specs.Origins.{Enabled, puts}
 use Rattle.queues.specs.Flows.{bump}
 use Rattle.queues.specs.Stands.{Stands}
-use Rattle.queues.proofs.Replacing.{laid_of, sounds_of}
+use Rattle.queues.proofs.Replacing.{laid_of}
 use Rattle.run.proofs.Burst.{Burst, burst_none, burst_on, burst_off, burst_all}
 use Rattle.run.proofs.run.Run.fire_all.Goals as goal
 use Rattle.run.proofs.run.Run.fire_all.Goals.{then-firing-i+in-Some, then-firing-i+in_default, else-firing-i}

@@ -1,4 +1,4 @@
-use Rattle.std.proofs.Common.{true, length, refl, arith, rules}
+use Rattle.std.proofs.Common.{true, length, refl, arith}
 use Rattle.run.proofs.Replying.{front_told}
 use Rattle.run.proofs.run.Run.front.Goals as goal
 

@@ -1,4 +1,4 @@
-use Rattle.std.proofs.Common.{◌≡◌, ℕ, ◌≤◌, length, vec_items, sym, refl, ap, ◌∙◌, arith}
+use Rattle.std.proofs.Common.{vec_items, refl, ap, ◌∙◌, arith}
 use Rattle.netlist.specs.declared.netlist.Netlist.{Netlist}
 use Rattle.run.proofs.Blocks.{module_count}
 use Rattle.run.proofs.Laying.{apart_laid, lists_fit, sounds_laid}

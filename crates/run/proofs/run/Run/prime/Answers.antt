@@ -1,4 +1,4 @@
-use Rattle.std.proofs.Common.{◌≡◌, length, refl}
+use Rattle.std.proofs.Common.{length, refl}
 use Rattle.calls.specs.Calls.{put}
 use Rattle.queues.specs.Stands.{items}
 use Rattle.run.proofs.Prime.{starts, told_prime}

@@ -1,4 +1,4 @@
-use Rattle.std.proofs.Common.{◌≡◌, ℕ, ◌+◌, ◌^◌, ◌<◌, ◌≤◌, length, refl, arith, rules}
+use Rattle.std.proofs.Common.{◌^◌, ◌<◌, length, refl, arith, rules}
 use Rattle.counts.specs.Steps.{fires}
 use Rattle.run.proofs.Arrays.{unset}
 use Rattle.run.proofs.Replying.{step_ok}
