@@ -3,12 +3,12 @@ use Rattle.std.proofs.Common.{◌≡◌, ℕ, zero, suc, ◌<◌, ◌≤◌, ◌
 use Rattle.std.proofs.ByRecursion.{All-weaker}
 use Rattle.std.proofs.lemmas.Bool.{cases_eq}
 use Rattle.std.specs.Int.{IsInRange}
-use Rattle.std.specs.List.{AllByRecursion as All}
+use Rattle.std.specs.List.{AllByRecursion}
 use Rattle.checking.specs.Nets.{Leads}
 
 -- x is none of the numbers
 abbrev Absent : ℕ → List ℕ → Type 0
-Absent x xs = All (λ y. x ≡ y → ⊥) xs
+Absent x xs = AllByRecursion (λ y. x ≡ y → ⊥) xs
 
 -- the numbers are all different
 abbrev Distinct : List ℕ → Type 0
@@ -19,15 +19,15 @@ Distinct (x ∷ xs) = Absent x xs × Distinct xs
 record Lower (m : ℕ) (xs : List ℕ) : Type 0 where
   rest : List ℕ
   distinct : Distinct rest
-  within : All (IsInRange 1 m) rest
+  within : AllByRecursion (IsInRange 1 m) rest
   one_less : length xs ≤ suc (length rest)
   absent : (z : ℕ) → Absent z xs → Absent z rest
 
-under : (m : ℕ) (xs : List ℕ) → Absent (suc m) xs → All (IsInRange 1 (suc m)) xs → All (IsInRange 1 m) xs
+under : (m : ℕ) (xs : List ℕ) → Absent (suc m) xs → AllByRecursion (IsInRange 1 (suc m)) xs → AllByRecursion (IsInRange 1 m) xs
 under m [] none all = tt
 under m (x ∷ xs) none all = ((all.0.0, omega (arith, none.0, all.0.1)), under m xs none.1 all.1)
 
-lower : (m : ℕ) (xs : List ℕ) → Distinct xs → All (IsInRange 1 (suc m)) xs → Lower m xs
+lower : (m : ℕ) (xs : List ℕ) → Distinct xs → AllByRecursion (IsInRange 1 (suc m)) xs → Lower m xs
 lower m [] d all = record { rest = []; distinct = tt; within = tt; one_less = omega arith; absent = λ z h. tt }
 lower m (x ∷ xs) d all =
     ⊎_elim
@@ -50,7 +50,7 @@ lower m (x ∷ xs) d all =
     (cases_eq x (suc m))
 
 -- different numbers from 1 to m are at most m
-pigeons : (m : ℕ) (xs : List ℕ) → Distinct xs → All (IsInRange 1 m) xs → length xs ≤ m
+pigeons : (m : ℕ) (xs : List ℕ) → Distinct xs → AllByRecursion (IsInRange 1 m) xs → length xs ≤ m
 pigeons zero [] d all = omega arith
 pigeons zero (x ∷ xs) d all = absurd (omega (arith, all.0.0, all.0.1))
 pigeons (suc m) xs d all = let l = lower m xs d all in omega (arith, l.one_less, pigeons m l.rest l.distinct l.within)
@@ -81,10 +81,10 @@ module _ (Step : ℕ → ℕ → ℕ → Type 0) where
     es : List ℕ
     leads : Leads Step u es v
     distinct : Distinct (stops es u v leads)
-    within : All (IsInRange 1 m) (stops es u v leads)
+    within : AllByRecursion (IsInRange 1 m) (stops es u v leads)
 
   -- x is not passed, or one may start from it
-  from_stop : (m x : ℕ) (es : List ℕ) (u v : ℕ) (l : Leads Step u es v) → Distinct (stops es u v l) → All (IsInRange 1 m) (stops es u v l) → Absent x (stops es u v l) ⊎ Simple m x v
+  from_stop : (m x : ℕ) (es : List ℕ) (u v : ℕ) (l : Leads Step u es v) → Distinct (stops es u v l) → AllByRecursion (IsInRange 1 m) (stops es u v l) → Absent x (stops es u v l) ⊎ Simple m x v
   from_stop m x [] u v l d all =
       ⊎_elim
       (λ (e : x ≡ u). inr (subst (λ y. Simple m y v) (sym e) (record { es = []; leads = l; distinct = d; within = all })))
@@ -112,13 +112,13 @@ module _ (Step : ℕ → ℕ → ℕ → Type 0) where
         let s = simple es u v h l in
         (s.es, omega (arith, length_stops s.es u v s.leads, pigeons m (stops s.es u v s.leads) s.distinct s.within), s.leads)
 
-    passed_within : (es : List ℕ) (u v : ℕ) → IsInRange 1 m u → (l : Leads Step u es v) → All (IsInRange 1 m) (stops es u v l)
+    passed_within : (es : List ℕ) (u v : ℕ) → IsInRange 1 m u → (l : Leads Step u es v) → AllByRecursion (IsInRange 1 m) (stops es u v l)
     passed_within [] u v h l = (h, tt)
     passed_within (e ∷ es) u v h l = (h, passed_within es l.0 v (ends e u l.0 l.1) l.2)
 
     module _ (no_ring : (v : ℕ) (es : List ℕ) → 0 < length es → Leads Step v es v → ⊥) where
       -- a first part of the channels leads to each module that is passed
-      led_to : (es : List ℕ) (u v : ℕ) (l : Leads Step u es v) → All (λ x. (ds : List ℕ) × Leads Step u ds x) (stops es u v l)
+      led_to : (es : List ℕ) (u v : ℕ) (l : Leads Step u es v) → AllByRecursion (λ x. (ds : List ℕ) × Leads Step u ds x) (stops es u v l)
       led_to [] u v l = (([], refl), tt)
       led_to (e ∷ es) u v l = (
         ([], refl),

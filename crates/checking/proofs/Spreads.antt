@@ -2,7 +2,7 @@
 use Rattle.std.proofs.Common.{◌≡◌, ℕ, zero, suc, ◌+◌, ◌-◌, ◌<◌, ◌≤◌, Bool, true, false, ◌&&◌, List, [], ◌∷◌, length, get_or, Decides, sym, refl, ap, subst, inl, inr, ⊎_elim, arith}
 use Rattle.std.proofs.lemmas.Bool.{and_parts}
 use Rattle.std.specs.Int.{IsInRange}
-use Rattle.std.specs.List.{AllByRecursion as All}
+use Rattle.std.specs.List.{AllByRecursion}
 use Rattle.scale.specs.Counts.{counts, onward, weight}
 use Rattle.scale.specs.Walks.{Walk}
 use Rattle.scale.specs.YesNo.{SomeWalk, yes_no}
@@ -19,13 +19,13 @@ yes_before ws m x u (v ∷ p) y = (and_parts x (weight yes_no ws m u v) (yes_bef
 record Moves (m : ℕ) (ws : List Bool) (k u v : ℕ) : Type 0 where
   on : List ℕ
   long : length on ≡ k
-  within : All (λ w. w < m) on
+  within : AllByRecursion (λ w. w < m) on
   ends : get_or (u ∷ on) k 0 ≡ v
   yes : onward yes_no ws m true u on ≡ true
 
 module _ (Step : ℕ → ℕ → ℕ → Type 0) (m : ℕ) (ws : List Bool) (table : Table Step m ws) where
   -- each move that is no staying is a step
-  led : (x : Bool) (u v : ℕ) (p : List ℕ) → u < m → All (λ w. w < m) p → get_or (u ∷ p) (length p) 0 ≡ v → onward yes_no ws m x u p ≡ true → (es : List ℕ) × Leads Step (u + 1) es (v + 1)
+  led : (x : Bool) (u v : ℕ) (p : List ℕ) → u < m → AllByRecursion (λ w. w < m) p → get_or (u ∷ p) (length p) 0 ≡ v → onward yes_no ws m x u p ≡ true → (es : List ℕ) × Leads Step (u + 1) es (v + 1)
   led x u v [] h all e y = ([], ap (λ k. k + 1) e)
   led x u v (w ∷ p) h all e y =
       let move = (and_parts x (weight yes_no ws m u w) (yes_before ws m (x && weight yes_no ws m u w) w p y)).1 in

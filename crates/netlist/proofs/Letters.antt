@@ -5,7 +5,7 @@ use Rattle.std.proofs.lemmas.Bool.Decides.{nat_tests}
 use Rattle.std.proofs.ByRecursion.{IsAscii-from_all}
 use Rattle.std.proofs.lemmas.Str.{IsUtf8-from_ascii}
 use Rattle.std.specs.Int.{IsInRange, IsOutOfRange, is_in_range}
-use Rattle.std.specs.List.{AllByRecursion as All}
+use Rattle.std.specs.List.{AllByRecursion}
 use Rattle.netlist.specs.declared.refusal.Cause.TheVariants.{EndsEarly, ValueOutOfRange}
 use Rattle.netlist.specs.Faults.{byte, count, flaw, name}
 
@@ -45,7 +45,7 @@ name_bad (suc n) zero (b ∷ bytes) h l shown bad = rw (within_false 33 126 b ba
 name_bad (suc n) (suc i) (b ∷ bytes) h l shown bad =
     rw (within_true 33 126 b (shown 0 (omega arith)), name_bad n i bytes (omega arith) (omega arith) (λ k l. shown (suc k) (omega arith)) bad) (simp unary_clauses refl)
 
-below : (n : ℕ) (bytes : List ℕ) → ((k : ℕ) → k < n → IsInRange 33 126 (get_or bytes k 0)) → All (λ b. b < 128) (take n bytes)
+below : (n : ℕ) (bytes : List ℕ) → ((k : ℕ) → k < n → IsInRange 33 126 (get_or bytes k 0)) → AllByRecursion (λ b. b < 128) (take n bytes)
 below zero bytes shown = tt
 below (suc n) [] shown = tt
 below (suc n) (b ∷ bytes) shown = (omega (arith, shown 0 (omega arith)), below n bytes (λ k l. shown (suc k) (omega arith)))

@@ -2,7 +2,7 @@
 use Rattle.std.proofs.Common.{◌≡◌, ℕ, zero, suc, ◌+◌, ◌*◌, ◌/◌, ◌%◌, ◌≤◌, Bool, true, ◌||◌, eqb, ◌⊎◌, List, [], ◌∷◌, ◌++◌, length, Ok, Err, Result, refl, ap, ◌∙◌, append_assoc, arith}
 use Rattle.std.proofs.lemmas.Bool.Decides.{nat_tests}
 use Rattle.std.specs.Int.{IsInRange, is_in_range}
-use Rattle.std.specs.List.{AllByRecursion as All}
+use Rattle.std.specs.List.{AllByRecursion}
 use Rattle.netlist.specs.declared.flaw.Flaw.{Flaw}
 use Rattle.netlist.specs.declared.channel.Channel.{Channel}
 use Rattle.netlist.specs.Faults.{one_channel, one_module, one_size, before, byte, channel, channels, contents, count, entry, join, kind_of, modules, name, nothing, sizes}
@@ -41,7 +41,7 @@ record SizesSaid (k : ℕ) (bytes : List ℕ) (c : Contents) : Type 0 where
   modules : c.modules ≡ []
   channels : c.channels ≡ []
   long : length c.sizes ≡ k
-  each : All (IsInRange 1 16) c.sizes
+  each : AllByRecursion (IsInRange 1 16) c.sizes
   laid : bytes ≡ c.sizes
 
 sizes_more : (k s : ℕ) (bytes rest : List ℕ) (d c : Contents) → IsInRange 1 16 s → bytes ≡ s ∷ rest → SizesSaid k rest d → join (one_size s) d ≡ c → SizesSaid (suc k) bytes c
@@ -58,7 +58,7 @@ sizes_said (suc k) bytes c h =
     sizes_more k p.0 bytes p.1 q.0 c b.0 b.1 (sizes_said k p.1 q.0 q.1) q.2
 
 abbrev Ends : ℕ → List Channel → Type 0
-Ends n cs = All (λ d. IsInRange 1 n d.source × IsInRange 1 n d.sink) cs
+Ends n cs = AllByRecursion (λ d. IsInRange 1 n d.source × IsInRange 1 n d.sink) cs
 
 abbrev sizing : List ℕ → List ℕ
 sizing ss = two (length ss) ++ ss
@@ -68,7 +68,7 @@ record ChannelsSaid (n e k : ℕ) (bytes : List ℕ) (c : Contents) : Type 0 whe
   long : length c.channels ≡ k
   ends : Ends n c.channels
   sized : (length c.sizes ≡ 0) ⊎ (length c.sizes ≡ e)
-  each : All (IsInRange 1 16) c.sizes
+  each : AllByRecursion (IsInRange 1 16) c.sizes
   laid : bytes ≡ channel_bytes c.channels ++ sizing c.sizes
 
 sized_by : (v e : ℕ) → (eqb v 0 || eqb v e) ≡ true → (v ≡ 0) ⊎ (v ≡ e)
@@ -143,11 +143,11 @@ wiring cs ss = two (length cs) ++ (channel_bytes cs ++ sizing ss)
 
 record ModulesSaid (n k : ℕ) (bytes : List ℕ) (c : Contents) : Type 0 where
   long : length c.modules ≡ k
-  named : All (λ m. Named m.name) c.modules
+  named : AllByRecursion (λ m. Named m.name) c.modules
   few : length c.channels ≤ 192
   ends : Ends n c.channels
   sized : (length c.sizes ≡ 0) ⊎ (length c.sizes ≡ length c.channels)
-  each : All (IsInRange 1 16) c.sizes
+  each : AllByRecursion (IsInRange 1 16) c.sizes
   laid : bytes ≡ module_bytes c.modules ++ wiring c.channels c.sizes
 
 modules_none : (n e : ℕ) (bytes rest : List ℕ) (c : Contents) → e ≤ 192 → Counted bytes e rest → ChannelsSaid n e e rest c → ModulesSaid n 0 bytes c

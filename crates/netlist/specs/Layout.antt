@@ -1,7 +1,7 @@
 -- The layout of a netlist file: which bytes say given contents. Assumes nothing.
 use Rattle.std.specs.Prelude.{◌≡◌, ℕ, ◌/◌, ◌%◌, ◌≤◌, ◌⊎◌, List, [], ◌∷◌, ◌++◌, length}
 use Rattle.std.specs.Int.{IsInRange}
-use Rattle.std.specs.List.{AllByRecursion as All}
+use Rattle.std.specs.List.{AllByRecursion}
 use Rattle.netlist.specs.declared.channel.Channel.{Channel}
 use Rattle.netlist.specs.declared.kind.Kind.{Kind}
 use Rattle.netlist.specs.declared.kind.Kind.TheVariants.{Block, RelayStation}
@@ -44,11 +44,11 @@ layout c =
 -- what a file may hold
 pub record Valid (c : Contents) : Type 0 where
   pub some : IsInRange 1 64 (length c.modules)
-  pub named : All (λ m. Named m.name) c.modules
+  pub named : AllByRecursion (λ m. Named m.name) c.modules
   pub few : length c.channels ≤ 192
-  pub ends : All (λ d. IsInRange 1 (length c.modules) d.source × IsInRange 1 (length c.modules) d.sink) c.channels
+  pub ends : AllByRecursion (λ d. IsInRange 1 (length c.modules) d.source × IsInRange 1 (length c.modules) d.sink) c.channels
   pub sized : (length c.sizes ≡ 0) ⊎ (length c.sizes ≡ length c.channels)
-  pub sizes : All (IsInRange 1 16) c.sizes
+  pub sizes : AllByRecursion (IsInRange 1 16) c.sizes
 
 -- the file says these contents
 pub record Says (file : List ℕ) (c : Contents) : Type 0 where

@@ -1,7 +1,7 @@
 -- The places of one channel more, and what holds of all places.
 use Rattle.std.proofs.Common.{◌≡◌, ℕ, suc, ◌+◌, ◌-◌, ◌*◌, ◌<◌, ◌≤◌, ◌≢◌, List, [], ◌∷◌, ◌++◌, length, get_or, take, set, vec_items, sym, refl, ap, ◌∙◌, append_assoc, arith, length-set}
 use Rattle.std.proofs.lemmas.List.{get_or_default, get_or-map, get_or-set_other, length-take-le, take_all, take_more, take_more_set}
-use Rattle.std.specs.List.{AllByRecursion as All}
+use Rattle.std.specs.List.{AllByRecursion}
 use Rattle.marked.specs.declared.place.Place.{Place}
 use Rattle.marked.specs.Graphs.{at}
 use Rattle.netlist.specs.declared.channel.Channel.{Channel}
@@ -35,7 +35,7 @@ extended_more kind cs qs i c places there back same l is room f b h =
 -- what holds of both places of each channel holds of all places
 pub extended_all : (P : Place → Type 0) (kind : ℕ → Kind) (cs : List Channel) (qs : List ℕ) (d : Channel)
     → ((i : ℕ) → i < length cs → i < length qs → P (forward kind (get_or cs i d)) × P (backward kind (get_or cs i d) (get_or qs i 0)))
-    → All P (extended kind cs qs)
+    → AllByRecursion P (extended kind cs qs)
 extended_all P kind [] qs d h = tt
 extended_all P kind (c ∷ cs) [] d h = tt
 extended_all P kind (c ∷ cs) (q ∷ qs) d h =

@@ -1,7 +1,7 @@
 -- What the choice over all walks says on the two scales of the crate. Assumes nothing.
 use Rattle.std.proofs.Common.{◌≡◌, ℕ, zero, suc, ◌+◌, ◌-◌, ◌^◌, ◌<◌, ◌≤◌, Bool, true, ◌⊎◌, List, [], ◌∷◌, map, length, replicate, refl, inl, inr, ⊎_elim, arith}
 use lib.ListN.{length-replicate, get_or-replicate}
-use Rattle.std.specs.List.{AllByRecursion as All}
+use Rattle.std.specs.List.{AllByRecursion}
 use Rattle.std.proofs.lemmas.Bool.{cases_lt, or_cases, or_left, or_right}
 use Rattle.scale.specs.Walks.{Walk, times, walks}
 use Rattle.scale.specs.Counts.{counts, choices, over_walks}
@@ -22,7 +22,7 @@ module _ (f : List ℕ → Bool) where
       (standing p q qs h)
 
   -- and where the choice is yes, one is
-  yes_found : (P : List ℕ → Type 0) (qs : List (List ℕ)) → All P qs → choices yes_no (map f qs) ≡ true → (p : List ℕ) × P p × (f p ≡ true)
+  yes_found : (P : List ℕ → Type 0) (qs : List (List ℕ)) → AllByRecursion P qs → choices yes_no (map f qs) ≡ true → (p : List ℕ) × P p × (f p ≡ true)
   yes_found P [] all y = absurd (let z : ◌≡◌ {A = ℕ} 0 1 = cc in omega arith)
   yes_found P (q ∷ qs) all y =
       ⊎_elim
@@ -51,7 +51,7 @@ module _ (f : List ℕ → Total) where
       (standing p q qs h)
 
   -- and it is one of them, unless it is no way
-  least_found : (P : List ℕ → Type 0) (qs : List (List ℕ)) → All P qs → ((choices least_total (map f qs)).sum ≡ 2 ^ 32 - 1) ⊎ ((p : List ℕ) × P p × ((f p).sum ≡ (choices least_total (map f qs)).sum))
+  least_found : (P : List ℕ → Type 0) (qs : List (List ℕ)) → AllByRecursion P qs → ((choices least_total (map f qs)).sum ≡ 2 ^ 32 - 1) ⊎ ((p : List ℕ) × P p × ((f p).sum ≡ (choices least_total (map f qs)).sum))
   least_found P [] all = inl refl
   least_found P (q ∷ qs) all =
       ⊎_elim
@@ -59,7 +59,7 @@ module _ (f : List ℕ → Total) where
       (λ l. ⊎_elim (λ e. inl (omega arith)) (λ h. inr (h.0, h.1, omega (arith, h.2))) (least_found P qs all.1))
       (cases_lt (f q).sum (choices least_total (map f qs)).sum)
 
-all_replicate : (n v k : ℕ) → v < n → All (λ u. u < n) (replicate k v)
+all_replicate : (n v k : ℕ) → v < n → AllByRecursion (λ u. u < n) (replicate k v)
 all_replicate n v zero l = tt
 all_replicate n v (suc k) l = (l, all_replicate n v k l)
 

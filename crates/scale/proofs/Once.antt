@@ -1,7 +1,7 @@
 -- `walks` lists every walk, each once. Assumes nothing.
 use Rattle.std.proofs.Common.{◌≡◌, ℕ, zero, suc, ◌+◌, ◌<◌, ◌≤◌, false, ◌&&◌, eqb, List, [], ◌∷◌, ◌++◌, map, length, get_or, take, sym, refl, ap, ◌∙◌, ⊎_elim, arith}
 use mathlib.Core.Bool.{and-true, and-false, and_assoc}
-use Rattle.std.specs.List.{range_with_len, flat_map, AllByRecursion as All}
+use Rattle.std.specs.List.{range_with_len, flat_map, AllByRecursion}
 use Rattle.std.proofs.lemmas.List.{length_push, length-take-le, take_more, take_all, nil_from_length, get_or_push}
 use Rattle.std.proofs.ByRecursion.{All-push, All-append, All-map, All-weaker, All-take, All-get_or}
 use Rattle.std.proofs.lemmas.Bool.{cases_eq, eq-eqb, ne_eqb}
@@ -69,7 +69,7 @@ split_last : (k : ℕ) (p : List ℕ) → length p ≡ k + 1 → p ≡ take k p 
 split_last k p long = sym (take_all (k + 1) p (omega arith)) ∙ take_more p k 0 (omega arith)
 
 -- every list of k modules is listed once
-lists_once : (n k : ℕ) (p : List ℕ) → length p ≡ k → All (λ u. u < n) p → times p (lists n k) ≡ 1
+lists_once : (n k : ℕ) (p : List ℕ) → length p ≡ k → AllByRecursion (λ u. u < n) p → times p (lists n k) ≡ 1
 lists_once n zero p long within = ap (λ q. times q (lists n 0)) (nil_from_length p long)
 lists_once n (suc k) p long within =
     let last = get_or p k 0 in
@@ -80,20 +80,20 @@ lists_once n (suc k) p long within =
 -- p is a list of k modules
 record Listed (n k : ℕ) (p : List ℕ) : Type 0 where
   long : length p ≡ k
-  within : All (λ u. u < n) p
+  within : AllByRecursion (λ u. u < n) p
 
 listed_push : (n k u : ℕ) → u < n → (p : List ℕ) → Listed n k p → Listed n (suc k) (p ++ u ∷ [])
 listed_push n k u l p r = record { long = length_push p u ∙ omega (arith, r.long); within = All-push (λ x. x < n) p u r.within l }
 
 -- nothing else is listed
-ending_within : (n k : ℕ) (qs : List (List ℕ)) → All (Listed n k) qs → (a m : ℕ) → a + m ≤ n → All (Listed n (suc k)) (ending qs a m)
+ending_within : (n k : ℕ) (qs : List (List ℕ)) → AllByRecursion (Listed n k) qs → (a m : ℕ) → a + m ≤ n → AllByRecursion (Listed n (suc k)) (ending qs a m)
 ending_within n k qs rs a zero h = tt
 ending_within n k qs rs a (suc m) h =
     All-append (Listed n (suc k)) (map (λ q. q ++ a ∷ []) qs) (ending qs (a + 1) m)
     (All-map (Listed n (suc k)) (λ q. q ++ a ∷ []) qs (All-weaker (Listed n k) (λ q. Listed n (suc k) (q ++ a ∷ [])) (listed_push n k a (omega arith)) qs rs))
     (ending_within n k qs rs (a + 1) m (omega arith))
 
-lists_within : (n k : ℕ) → All (Listed n k) (lists n k)
+lists_within : (n k : ℕ) → AllByRecursion (Listed n k) (lists n k)
 lists_within n zero = (record { long = refl; within = tt }, tt)
 lists_within n (suc k) = ending_within n k (lists n k) (lists_within n k) 0 n (omega arith)
 
@@ -103,7 +103,7 @@ every_walk_once n k v l = record { only = all_walks; once = once }
     end : (q : List ℕ) → Listed n k q → Walk n k v (q ++ v ∷ [])
     end q r = record { long = length_push q v ∙ omega (arith, r.long); within = All-push (λ x. x < n) q v r.within l; ends = get_or_push q v 0 k r.long }
 
-    all_walks : All (Walk n k v) (walks n k v)
+    all_walks : AllByRecursion (Walk n k v) (walks n k v)
     all_walks = All-map (Walk n k v) (λ q. q ++ v ∷ []) (lists n k) (All-weaker (Listed n k) (λ q. Walk n k v (q ++ v ∷ [])) end (lists n k) (lists_within n k))
 
     once : (p : List ℕ) → Walk n k v p → times p (walks n k v) ≡ 1

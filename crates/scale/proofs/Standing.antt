@@ -1,6 +1,6 @@
 -- A list that stands at some place of a list of lists. Assumes nothing.
 use Rattle.std.proofs.Common.{◌≡◌, ℕ, ◌<◌, true, cond, eqb, ◌⊎◌, List, [], ◌∷◌, sym, refl, ap, ◌∙◌, subst, inl, inr, ⊎_elim, arith}
-use Rattle.std.specs.List.{AllByRecursion as All}
+use Rattle.std.specs.List.{AllByRecursion}
 use Rattle.std.proofs.lemmas.Bool.{cases_Bool, cases_lt, and_parts, and_from, eqb-true, eq-eqb}
 use Rattle.scale.specs.Walks.{Walk, EachOnce, same, times}
 
@@ -28,7 +28,7 @@ pub standing_first : (p : List ℕ) (qs : List (List ℕ)) → 0 < times p (p �
 standing_first p qs = omega (arith, ap {B = ℕ} (λ b. cond b 1 0) (same_itself p))
 
 -- what holds of all lists of qs holds of one that stands there
-standing_all : (P : List ℕ → Type 0) (p : List ℕ) (qs : List (List ℕ)) → 0 < times p qs → All P qs → P p
+standing_all : (P : List ℕ → Type 0) (p : List ℕ) (qs : List (List ℕ)) → 0 < times p qs → AllByRecursion P qs → P p
 standing_all P p [] h all = absurd (omega arith)
 standing_all P p (q ∷ qs) h all = ⊎_elim (λ e. subst P (sym e) all.0) (λ l. standing_all P p qs l all.1) (standing p q qs h)
 

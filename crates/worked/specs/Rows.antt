@@ -1,6 +1,6 @@
 -- What is worked out of these netlists by hand, row by row (docs/worked.md). Assumes nothing.
 use Rattle.std.specs.Prelude.{◌≡◌, ℕ, ◌<◌, List, [], ◌∷◌, ◌++◌, take, ℤ, pos, neg_ℤ, Some, None, Ok, Err, slice_index_or, slice_set}
-use Rattle.std.specs.List.{AllByRecursion as All}
+use Rattle.std.specs.List.{AllByRecursion}
 use Rattle.netlist.specs.declared.netlist.Netlist.{Netlist}
 use Rattle.netlist.specs.declared.refusal.Cause.{Cause}
 use Rattle.netlist.specs.declared.refusal.Cause.TheVariants.{ByteAfterEnd, EndsEarly, NotJoined, ValueOutOfRange}
@@ -39,7 +39,7 @@ pub record Files : Type 0 where
   pub longer : (byte : ℕ) → verdict (f_file ++ (byte ∷ [])) ≡ Err (refusal ByteAfterEnd 25)
   pub astray : verdict (slice_set f_file 14 4) ≡ Err (refusal ValueOutOfRange 14)
   -- the other netlists have files too
-  pub others : All (λ c. Says (layout c) c) (D ∷ Ring ∷ Alone ∷ Pair ∷ [])
+  pub others : AllByRecursion (λ c. Says (layout c) c) (D ∷ Ring ∷ Alone ∷ Pair ∷ [])
 
 -- D with queues of 1, and caps of 2. Its rate is 3/4; the target 1/1 asks for one slot, on channel 1 or on channel 2.
 -- The potentials are those of modules 1 to 4, which a graph numbers from 0
