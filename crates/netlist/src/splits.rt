@@ -1,7 +1,7 @@
 // What stands at the front of the bytes of a file, and the bytes after it.
 ghost use Rattle.std.specs.Prelude.{◌≡◌, ◌||◌, ◌==◌};
 ghost use Rattle.std.specs.Int.{is_in_range};
-ghost use Rattle.netlist.specs.Faults.{byte as aByte, channel, count as aCount, entry, kind_of, name as aName};
+ghost use Rattle.netlist.specs.Faults.{byte as a_byte, channel, count as a_count, entry, kind_of, name as a_name};
 ghost use Rattle.netlist.specs.Splits.{Splits, SplitsModule, SplitsName};
 
 use crate::channel::Channel;
@@ -11,7 +11,7 @@ use crate::refusal::Cause;
 
 // A byte from `low` to `high`.
 pub(crate) fn split_byte(bytes: &[u8], low: u8, high: u8) -> Result<(u8, &[u8]), Flaw>
-    ensures { Splits (aByte low high bytes.now) result }
+    ensures { Splits (a_byte low high bytes.now) result }
 {
     let [first, rest @ ..] = bytes else {
         return Err(EARLY);
@@ -27,7 +27,7 @@ pub(crate) fn split_byte(bytes: &[u8], low: u8, high: u8) -> Result<(u8, &[u8]),
 
 // A count of two bytes, high byte first.
 pub(crate) fn split_count(bytes: &[u8], low: u8, high: u8) -> Result<(u8, &[u8]), Flaw>
-    ensures { Splits (aCount (is_in_range low high) bytes.now) result }
+    ensures { Splits (a_count (is_in_range low high) bytes.now) result }
 {
     let [first, second, rest @ ..] = bytes else {
         return Err(EARLY);
@@ -44,7 +44,7 @@ pub(crate) fn split_count(bytes: &[u8], low: u8, high: u8) -> Result<(u8, &[u8])
 
 // The count of the sizing: none, or as many as there are channels.
 pub(crate) fn split_sizing_count(bytes: &[u8], channels: u8) -> Result<(u8, &[u8]), Flaw>
-    ensures { Splits (aCount (λ s. (s == 0) || s == channels) bytes.now) result }
+    ensures { Splits (a_count (λ s. (s == 0) || s == channels) bytes.now) result }
 {
     let [first, second, rest @ ..] = bytes else {
         return Err(EARLY);
@@ -61,7 +61,7 @@ pub(crate) fn split_sizing_count(bytes: &[u8], channels: u8) -> Result<(u8, &[u8
 
 // A name of so many bytes.
 pub(crate) fn split_name(bytes: &[u8], count: u8) -> Result<(&str, &[u8]), Flaw>
-    ensures { SplitsName (aName count bytes.now) result }
+    ensures { SplitsName (a_name count bytes.now) result }
 {
     for at in 0..count as usize {
         let Some(byte) = bytes.get(at) else {
