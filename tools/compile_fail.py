@@ -16,11 +16,9 @@ REPOSITORY = pathlib.Path(__file__).resolve().parent.parent
 
 
 def copy_repository(copy):
-    """The crates, and what is known to be proved of them, so that only the edited one is looked at."""
+    """The crates without what checks made of them: a first check looks at the sources before it builds or proves anything."""
     shutil.copy(REPOSITORY / 'crates.txt', copy)
-    for folder in ('crates', 'target/rlib', 'target/stamp'):
-        if (REPOSITORY / folder).is_dir():
-            shutil.copytree(REPOSITORY / folder, copy / folder)
+    shutil.copytree(REPOSITORY / 'crates', copy / 'crates', ignore=shutil.ignore_patterns('out'))
 
 
 def errors_of(edit, copy):
@@ -31,9 +29,9 @@ def errors_of(edit, copy):
     if text.count(fields['old']) != 1:
         return fields['error'], ['the old text does not stand once in ' + str(path)]
     (copy / path).write_text(text.replace(fields['old'], fields['new']))
-    run = subprocess.run(['rt', 'mir', path.parts[1]], cwd=copy, capture_output=True, text=True)
+    run = subprocess.run(['rt', 'check'], cwd=copy / 'crates' / path.parts[1], capture_output=True, text=True)
     (copy / path).write_text(text)
-    return fields['error'], re.findall(r'error\[([\w-]+)\]', run.stdout + run.stderr)
+    return fields['error'], re.findall(r'^src/.*: error\[([\w-]+)\]', run.stdout + run.stderr, re.MULTILINE)
 
 
 def main():
