@@ -1,5 +1,5 @@
 // A free step takes a module to the least of one firing more and, over the places that lead to it, the firings where the place
-// starts plus its tokens. So it is a round on the least_total scale, in which the move along a place weighs its tokens, and to stay
+// starts plus its tokens. So it is a round on the least-total scale, in which the move along a place weighs its tokens, and to stay
 // at a module weighs 1.
 ghost use Rattle.std.specs.Prelude.{◌≡◌, ◌*◌, ◌<◌, length};
 ghost use Rattle.forecasting.specs.Weights.{Lightest, Weights};

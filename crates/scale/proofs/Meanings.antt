@@ -67,7 +67,7 @@ all_replicate n v (suc k) l = (l, all_replicate n v k l)
 staying : (n k v : ℕ) → v < n → Walk n k v (replicate (k + 1) v)
 staying n k v l = record { long = length-replicate (k + 1) v; within = all_replicate n v (k + 1) l; ends = get_or-replicate (k + 1) k v 0 (omega arith) }
 
--- On the least_total scale: the least total of a walk. Where that is no way, every walk counts as no way, the one that stays among them.
+-- On the least-total scale: the least total of a walk. Where that is no way, every walk counts as no way, the one that stays among them.
 pub least_walk : (es ws : List Total) (k v : ℕ) → v < length es → LeastWalk es ws k v (over_walks least_total es ws k v)
 least_walk es ws k v l =
     let n = length es in

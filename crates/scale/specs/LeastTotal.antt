@@ -1,4 +1,4 @@
--- The least_total scale, and what the choice over all walks says on it. Assumes nothing.
+-- The least-total scale, and what the choice over all walks says on it. Assumes nothing.
 use Rattle.std.specs.Prelude.{◌≡◌, ℕ, ◌+◌, ◌-◌, ◌^◌, ◌<◌, ◌≤◌, min, List, length}
 use mathlib.Core.HLevel.{is_prop→PathP}
 use Rattle.std.proofs.Math.Bridge.{le_prop}

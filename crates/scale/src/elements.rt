@@ -1,4 +1,4 @@
-// The elements of the least_total scale. They stand alone, since the definitions of that scale name them.
+// The elements of the least-total scale. They stand alone, since the definitions of that scale name them.
 ghost use Rattle.std.specs.Prelude.{◌^◌, ◌<◌};
 
 // A walk's total, where 2^32 - 1 says that there is no way. The ghost field lets a law speak of every total with no premise.

@@ -1,4 +1,4 @@
-// The least_total scale: what does the cheapest way come to?
+// The least-total scale: what does the cheapest way come to?
 ghost use Rattle.std.specs.Prelude.{ℕ, ◌<◌, length};
 ghost use Rattle.scale.specs.Counts.{element};
 ghost use Rattle.scale.specs.LeastTotal.{least_total, LeastWalk};
