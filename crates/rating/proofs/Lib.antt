@@ -4,4 +4,3 @@ pub mod Numbering
 pub mod Fitting
 pub mod Measuring
 pub mod Accepting
-pub mod Deciding

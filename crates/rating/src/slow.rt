@@ -30,16 +30,8 @@ pub fn slow_cycle(
     requires room { modules netlist.now ≤ length cycle.old }
     ensures { MatchOption result (Reaches target.0 target.1 (graph_of netlist.now sizing.now) × (cycle.new ≡ cycle.old)) (Found (modules netlist.now) target.0 target.1 (graph_of netlist.now sizing.now) cycle.old cycle.new) }
 {
-    let nowhere = Place {
-        from: 0,
-        to: 0,
-        tokens: 0,
-    };
-    let mut places = [nowhere; PLACES];
-    let count = extend(netlist, sizing, &mut places);
-    let graph = Graph::new(netlist.modules().len(), &places[0..count]);
-    let mut potentials = [0; MODULES];
-    marked::slow_cycle(graph, target.0, target.1, &mut potentials, cycle)
+    let slow = slow_cycle_with_tokens(netlist, sizing, target, cycle)?;
+    Some(slow.length)
 }
 
 /// Looks for a slow cycle as `slow_cycle` does, and says with its length how many tokens its places hold.
@@ -54,7 +46,6 @@ pub fn slow_cycle_with_tokens(
     requires room { modules netlist.now ≤ length cycle.old }
     ensures { MatchOption result (Reaches target.0 target.1 (graph_of netlist.now sizing.now) × (cycle.new ≡ cycle.old)) (λ s. Found (modules netlist.now) target.0 target.1 (graph_of netlist.now sizing.now) cycle.old cycle.new s.length × (s.tokens ≡ tokens_on (graph_of netlist.now sizing.now) (take s.length cycle.new))) }
 {
-    let length = slow_cycle(netlist, sizing, target, cycle)?;
     let nowhere = Place {
         from: 0,
         to: 0,
@@ -63,6 +54,8 @@ pub fn slow_cycle_with_tokens(
     let mut places = [nowhere; PLACES];
     let count = extend(netlist, sizing, &mut places);
     let graph = Graph::new(netlist.modules().len(), &places[0..count]);
+    let mut potentials = [0; MODULES];
+    let length = marked::slow_cycle(graph, target.0, target.1, &mut potentials, cycle)?;
     let tokens = tokens_on(graph, &cycle[0..length]);
     Some(SlowCycle { length, tokens })
 }

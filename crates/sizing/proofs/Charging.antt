@@ -1,5 +1,5 @@
 -- Slow cycles one after another: the tokens that a cycle lacks are slots of its own.
-use Rattle.std.proofs.Common.{◌≡◌, ℕ, zero, suc, ◌+◌, ◌-◌, ◌*◌, ◌/◌, ◌%◌, ◌<◌, ◌≤◌, min, List, length, get_or, take, refl, ap, ⊎_elim, mul-le-mul_right, mod-lt, zero-mul, mul-one, mul-add, arith}
+use Rattle.std.proofs.Common.{◌≡◌, ℕ, zero, suc, ◌+◌, ◌-◌, ◌*◌, ◌/◌, ◌%◌, ◌<◌, ◌≤◌, min, List, length, get_or, take, refl, ap, ⊎_elim, mod-lt, zero-mul, mul-one, mul-add, arith}
 use native.Mathlib.Nat.{div-add-mod, le_of_mul-le-mul_left, lt_of_mul-lt-mul_left}
 use Rattle.std.proofs.lemmas.List.{length-take-le}
 use Rattle.std.proofs.lemmas.Bool.{cases_eq}
@@ -53,10 +53,6 @@ module _ (a b l x : ℕ) (slow : b * x < a * l) where
         enough = omega (arith, mul-add b x k, up_enough b (a * l - b * x) k pos is);
         least = λ y h. up_least b (a * l - b * x) k pos is y (omega (arith, h, mul-add b x y));
       }
-
--- a cycle lacks no more tokens than it has places
-pub lacks_few : (a b l x k : ℕ) → Lacks a b l x k → a ≤ b → k ≤ l
-lacks_few a b l x k lack proper = lack.least l (omega (arith, mul-le-mul_right l proper, mul-add b x l))
 
 -- one more slow cycle, with all of its queues put at their caps, is as many slots more as it lacks tokens
 pub charged : (n : Netlist) (a b : ℕ) (caps sizes r r' before after : List ℕ) (k tokens lack need : ℕ) → Ready n a b caps r → AtLeast sizes r

@@ -2,7 +2,6 @@ use Rattle.std.proofs.Common.{◌≡◌, length, sym, ap, ◌∙◌, arith}
 use native.Mathlib.Nat.{sub-zero}
 use Rattle.marked.proofs.Rating.{part}
 use Rattle.netlist.specs.Holds.{modules}
-use Rattle.rating.specs.Extended.{graph_of}
 use Rattle.rating.proofs.Fitting.{fits_as}
 use Rattle.rating.proofs.Measuring.{front_is}
 use Rattle.rating.proofs.slow.slow_cycle_with_tokens.Goals as goal
@@ -18,6 +17,6 @@ pub tokens_on-tokens-requires : goal.tokens_on-tokens-requires
 tokens_on-tokens-requires c =
     let g = c.new-graph.result in
     let n = c.args.netlist.now in
-    let graph : g.places.now ≡ graph_of n c.args.sizing.now = c.new-graph.ensures.places ∙ front_is c.extend-count.result c.extend-count.new.places ∙ c.extend-count.ensures.places in
-    let r = part (modules n) (graph_of n c.args.sizing.now) c.args.target.0 c.args.target.1 c.args.cycle.now c.slow_cycle.new.cycle c.in_ok-length.length _ c.in_ok-length.ensures n.some.1 (omega (arith, c.requires.room, c.slow_cycle.auto.cycle)) (sub-zero c.in_ok-length.length) in
-    record { inside = rw graph r.0; short = r.1 }
+    let same : g.modules ≡ modules n = c.new-graph.ensures.modules ∙ ap length c.modules.ensures ∙ sym n.modules.ok.0 in
+    let r = part g.modules g.places.now c.args.target.0 c.args.target.1 c.args.cycle.now c.slow_cycle.new.cycle c.in_ok-length.length _ c.in_ok-length.ensures.0 g.some.1 (omega (arith, c.requires.room, c.slow_cycle.auto.cycle)) (sub-zero c.in_ok-length.length) in
+    record { inside = r.0; short = r.1 }
