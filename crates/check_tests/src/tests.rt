@@ -1,7 +1,7 @@
 ghost use Rattle.std.specs.Prelude.{◌≤◌, length};
 
 use checking::check;
-use netlist::{Cause, Netlist, Refusal, read};
+use netlist::{CHANNELS, Cause, Netlist, Refusal, read};
 use std::alloc::Global;
 use std::test::Fail;
 
@@ -32,11 +32,8 @@ fn refusal_of(heap: Global, kinds: &[u8], channels: &[(u8, u8)]) -> Result<Optio
 {
     let file = file_of(heap, kinds, channels)?;
     let mut netlist = Netlist::new(heap)?;
-    read(heap, file.as_slice(), &mut netlist, &mut [0; 192])?;
-    match check(&netlist) {
-        Ok(_) => Ok(None),
-        Err(refusal) => Ok(Some(refusal)),
-    }
+    read(heap, file.as_slice(), &mut netlist, &mut [0; CHANNELS])?;
+    Ok(check(&netlist).err())
 }
 
 fn refused(cause: Cause, place: usize) -> Option<Refusal> {

@@ -1,28 +1,27 @@
 -- Lists of yes and no that loops fill, and numbers that loops go through. Assumes nothing.
-use Rattle.std.proofs.Common.{◌≡◌, ℕ, ◌+◌, ◌-◌, ◌*◌, ◌/◌, ◌%◌, ◌<◌, ◌≤◌, Bool, true, false, eqb, ◌≢◌, ◌⊎◌, List, [], ◌∷◌, length, get_or, take, set, replicate, vec_items, Decides, count_by, sym, ap, ◌∙◌, subst, ⊎_elim, arith, below_more}
-use Rattle.std.proofs.lemmas.Nat.{div_below, div-mul-add, mod_below, mod-mul-add, mul-add-lt, mul-le}
-use Rattle.std.proofs.lemmas.List.{get_or-replicate, get_or-set_other, get_or-set_same, length-replicate, length-set, take_all}
-use Rattle.std.proofs.lemmas.List.Sums.{count_by_more_no, count_by_more_yes}
-use Rattle.std.proofs.lemmas.Bool.{cases_eq, eq-eqb, false≢true, ne_eqb}
+use Rattle.std.proofs.Common.{◌≡◌, ℕ, ◌+◌, ◌-◌, ◌*◌, ◌/◌, ◌%◌, ◌<◌, ◌≤◌, Bool, true, false, ◌≢◌, List, [], ◌∷◌, length, get_or, set, replicate, Some, None, MatchOption, Option, vec_items, Decides, sym, ap, ◌∙◌, subst, ⊎_elim, arith, below_more}
+use Rattle.std.proofs.lemmas.Nat.{div-mul-add, mod-mul-add, mul-add-lt}
+use Rattle.std.proofs.lemmas.List.{get_or-replicate, get_or-set_other, get_or-set_same, length-replicate, length-set}
+use Rattle.std.proofs.lemmas.Bool.{cases_eq, false≢true}
 use Rattle.std.specs.Int.{IsInRange}
-use Rattle.netlist.specs.declared.channel.Channel.{Channel}
 use Rattle.netlist.specs.declared.netlist.Module.{Module}
 use Rattle.netlist.specs.declared.netlist.Netlist.{Netlist}
-use Rattle.checking.specs.Links.{Move, Reached, Stepping, Table}
+use Rattle.checking.specs.Links.{Finds, Move, Picks, Reached, Stepping, Table}
 use Rattle.netlist.specs.Holds.{modules}
 use Rattle.checking.specs.Nets.{Leads}
 
--- one more number from 1 on has P
-pub one_more : (P : ℕ → Type 0) (m i : ℕ) → ((u : ℕ) → IsInRange 1 m u → u < i → P u) → P i → (u : ℕ) → IsInRange 1 m u → u < i + 1 → P u
-one_more P m i before here u h lt = ⊎_elim (λ (last : u ≡ i). subst P (sym last) here) (λ ne. before u h (omega (arith, ne))) (cases_eq u i)
+-- what a search for the lowest module finds, where the test decides
+pub finds : (n : Netlist) (ms : List Module) (Good Bad : ℕ → Type 0) (Says : ℕ → Bool → Type 0) (r : Option ℕ) → ms ≡ vec_items n.modules → Picks (length ms) Says r
+    → ((v : ℕ) → IsInRange 1 (modules n) v → Says v false → Good v) → ((v : ℕ) → IsInRange 1 (modules n) v → Says v true → Bad v) → ((v : ℕ) → Good v → Bad v → ⊥)
+    → Finds (modules n) Good Bad r
+finds n ms Good Bad Says r same picks good bad one = found r (rw long at picks.picked)
+  where
+    long : length ms ≡ modules n
+    long = omega (arith, ap length same, n.modules.ok.0)
 
--- the numbers of the modules that the code lists
-pub number_in : (n : Netlist) (ms : List Module) (v : ℕ) → ms ≡ vec_items n.modules → 1 ≤ v → v ≤ length ms → IsInRange 1 (modules n) v
-number_in n ms v same low high = (low, omega (arith, ap length same, n.modules.ok.0))
-
--- the last of them has P, and with it all
-pub all_seen : (P : ℕ → Type 0) (n : Netlist) (ms : List Module) (i : ℕ) → ms ≡ vec_items n.modules → length ms ≤ i → ((u : ℕ) → IsInRange 1 (modules n) u → u < i → P u) → P i → (u : ℕ) → IsInRange 1 (modules n) u → P u
-all_seen P n ms i same last before here u h = one_more P (modules n) i before here u h (omega (arith, h.1, ap length same, n.modules.ok.0))
+    found : (o : Option ℕ) → MatchOption o ((v : ℕ) → IsInRange 1 (modules n) v → Says v false) (λ v. IsInRange 1 (modules n) v × Says v true × ((u : ℕ) → IsInRange 1 (modules n) u → u < v → Says u false)) → Finds (modules n) Good Bad o
+    found None p = λ v h. good v h (p v h)
+    found (Some v) p = record { within = p.0; has = bad v p.0 p.1; none_lower = λ u h lt b. one u (good u h (p.2 u h lt)) b }
 
 -- one more entry says whether Q
 pub entry_more : (Q : ℕ → Type 0) (xs : List Bool) (i : ℕ) (r : Bool) → i < length xs → ((k : ℕ) → k < i → Decides (get_or xs k false) (Q k)) → Decides r (Q i) → (k : ℕ) → k < i + 1 → Decides (get_or (set xs i r) k false) (Q k)
@@ -31,20 +30,10 @@ entry_more Q xs i r h before here =
     (λ k lt. let ne : k ≢ i = omega arith in rw (get_or-set_other xs i k r false ne) (before k lt))
     (rw (get_or-set_same xs i r false h) here)
 
--- row and column of an entry of a table for m modules
-pub row_column : (m n at : ℕ) → n ≡ m → 1 ≤ m → at < m * m → IsInRange 1 m (at / n + 1) × IsInRange 1 m (at % n + 1)
-row_column m n at same some h =
-    rw same ((omega arith, omega (arith, div_below at m m some h)), (omega arith, omega (arith, mod_below at m some)))
-
+-- the whole table
 pub table_filled : (Step : ℕ → ℕ → ℕ → Type 0) (m : ℕ) (ws : List Bool) (i : ℕ) → m * m ≤ i → ((k : ℕ) → k < i → Decides (get_or ws k false) (Move Step (k / m + 1) (k % m + 1))) → Table Step m ws
 table_filled Step m ws i all filled u v hu hv =
     rw (div-mul-add u m v hv, mod-mul-add u m v hv) at (filled (u * m + v) (omega (arith, mul-add-lt u m v m hu hv)))
-
--- the table of a netlist has room
-pub table_fits : (n : Netlist) (ms : List Module) → ms ≡ vec_items n.modules → length ms * length ms ≤ 4096
-table_fits n ms same =
-    let few : length ms ≤ 64 = omega (arith, ap length same, n.modules.ok.0, n.some.1) in
-    mul-le (length ms) (length ms) 64 64 few few
 
 -- what the entries say of each module, read for module v
 pub entry_of_module : (P : ℕ → Type 0) (at : List Bool) (m v : ℕ) → IsInRange 1 m v → ((k : ℕ) → k < m → Decides (get_or at k false) (P (k + 1))) → Decides (get_or at (v - 1) false) (P v)
@@ -97,24 +86,3 @@ ring_found Step at m v r long h ends stepping d = (
           (stepping (l.0 - 1) lt).1 (e, subst (λ x. Step e v x) is l.1),
           (es, subst (λ x. Leads Step x es (v - 1 + 1)) is (subst (λ x. Leads Step l.0 es x) (sym back) l.2)),
         )
-
--- a is how many of the first i channels have v at the end f
-abbrev pub Counted : (Channel → ℕ) → ℕ → List Channel → ℕ → ℕ → Type 0
-Counted f v xs i a = (a ≤ i) × (a ≡ count_by (λ c. eqb (f c) v) (take i xs))
-
--- one more channel is counted, if it has
-pub counted_more : (f : Channel → ℕ) (v : ℕ) (ys xs : List Channel) (i a b : ℕ) (d : Channel) → ys ≡ xs → i < length ys → Counted f v xs i a
-    → ((f (get_or ys i d) ≡ v) × (b ≡ a + 1)) ⊎ ((f (get_or ys i d) ≡ v → ⊥) × (b ≡ a)) → Counted f v xs (i + 1) b
-counted_more f v ys xs i a b d same h before this =
-    let lt : i < length xs = rw same at h in
-    ⊎_elim
-    (λ (new : (f (get_or ys i d) ≡ v) × (b ≡ a + 1)).
-    (omega (arith, before.0, new.1), new.1 ∙ ap (λ k. k + 1) before.1 ∙ sym (count_by_more_yes (λ c. eqb (f c) v) xs i d lt (eq-eqb (f (get_or xs i d)) v (rw same at new.0)))))
-    (λ (old : (f (get_or ys i d) ≡ v → ⊥) × (b ≡ a)).
-    (omega (arith, before.0, old.1), old.1 ∙ before.1 ∙ sym (count_by_more_no (λ c. eqb (f c) v) xs i d lt (ne_eqb (f (get_or xs i d)) v (rw same at old.0)))))
-    this
-
-pub counted_all : (f : Channel → ℕ) (v : ℕ) (ys xs : List Channel) (i a : ℕ) → ys ≡ xs → length ys ≤ i → Counted f v xs i a → a ≡ count_by (λ c. eqb (f c) v) xs
-counted_all f v ys xs i a same all before =
-    let le : length xs ≤ i = rw same at all in
-    before.1 ∙ ap (count_by (λ c. eqb (f c) v)) (take_all i xs le)

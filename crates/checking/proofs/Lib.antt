@@ -3,3 +3,4 @@ pub mod Spreads
 pub mod Held
 pub mod Fills
 pub mod Passes
+pub mod Ways

@@ -12,10 +12,11 @@ use Rattle.netlist.specs.declared.netlist.Netlist.{Netlist}
 use Rattle.checking.specs.Faults.{Loose, Nobody, Ringed}
 use Rattle.netlist.specs.Holds.{channel, channels, kind_of, modules}
 use Rattle.checking.specs.Nets.{Hops, Joined, Joins, Leads, Origin, Relay, Way, inputs, outputs}
-use Rattle.checking.specs.Verdicts.{Passed}
+use Rattle.checking.specs.Verdicts.{Faultless, Passed}
 use Rattle.checking.specs.declared.link.Link.TheVariants.{EitherWay, Relays}
 use Rattle.checking.proofs.Cuts.{cut, few, leads_append, leads_back}
 use Rattle.checking.proofs.Held.{source_in, step_in}
+use Rattle.checking.proofs.Ways.{all_joined}
 
 module _ {X : Type 0} (p : X → Bool) where
   counted_cons : (x : X) (xs : List X) → count_by p (x ∷ xs) ≡ cond (p x) 1 0 + count_by p xs
@@ -152,3 +153,7 @@ module _ (n : Netlist) (ends : Nobody (modules n) (Loose n)) (joined : (v : ℕ)
     origins = origins;
     one_origin = one_origin;
   }
+
+-- what follows from there being no fault
+pub passed_of : (n : Netlist) → Faultless n → Passed n
+passed_of n f = passed n f.relay_ends (all_joined n f.joined) f.no_ring

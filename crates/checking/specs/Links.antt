@@ -1,5 +1,5 @@
 -- Steps, tables, what is reached and what is found, for the contracts of private functions alone. Assumes nothing.
-use Rattle.std.specs.Prelude.{◌≡◌, ℕ, ◌+◌, ◌<◌, Bool, true, false, ◌⊎◌, List, length, Some, None, Decides, Option, slice_index_or}
+use Rattle.std.specs.Prelude.{◌≡◌, ℕ, ◌+◌, ◌<◌, Bool, true, false, ◌⊎◌, List, length, Some, None, Decides, MatchOption, Option, slice_index_or}
 use Rattle.std.specs.Int.{IsInRange}
 use Rattle.netlist.specs.declared.channel.Channel.{Channel}
 use Rattle.netlist.specs.declared.netlist.Netlist.{Netlist}
@@ -40,3 +40,8 @@ Reached Step at v = (u : ℕ) × (u < length at) × (slice_index_or at u false �
 abbrev pub Finds : ℕ → (ℕ → Type 0) → (ℕ → Type 0) → Option ℕ → Type 0
 Finds m Good Bad None = (v : ℕ) → IsInRange 1 m v → Good v
 Finds m Good Bad (Some v) = Lowest m Bad v
+
+-- the lowest of the numbers from 1 to m of which a test may have said yes, where it may have said no of all lower ones; where there
+-- is none, it may have said no of all. (A record, so that a proof need not repeat what the test says.)
+pub record Picks (m : ℕ) (Says : ℕ → Bool → Type 0) (r : Option ℕ) : Type 0 where
+  pub picked : MatchOption r ((v : ℕ) → IsInRange 1 m v → Says v false) (λ v. IsInRange 1 m v × Says v true × ((u : ℕ) → IsInRange 1 m u → u < v → Says u false))

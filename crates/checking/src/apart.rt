@@ -6,8 +6,9 @@ ghost use Rattle.netlist.specs.Holds.{modules as modules_in};
 ghost use Rattle.checking.specs.Nets.{Joined};
 ghost use Rattle.checking.specs.Faults.{Apart};
 
-use crate::link::Link;
-use netlist::Netlist;
+use crate::link::{Link, MOVES};
+use crate::lowest::lowest;
+use netlist::{MODULES, Netlist};
 
 // Leaves yes at each module that is joined to module 1.
 fn join(netlist: &Netlist, at: &mut [bool])
@@ -15,7 +16,8 @@ fn join(netlist: &Netlist, at: &mut [bool])
     ensures { (v : ℕ) → IsInRange 1 (modules_in netlist.now) v → Decides (slice_index_or at.new (v - 1) false) (Joined netlist.now 1 v) }
 {
     let n = netlist.modules().len();
-    let mut cells = [false; 4096];
+    // The check may not fail for memory: its tables, here and below, are the fronts of arrays of the largest size.
+    let mut cells = [false; MOVES];
     let table = &mut cells[0..n * n];
     Link::EitherWay.fill(netlist, table);
     at.fill(false);
@@ -28,13 +30,8 @@ pub(crate) fn module_apart(netlist: &Netlist) -> Option<usize>
     ensures { Finds (modules_in netlist.now) (Joined netlist.now 1) (Apart netlist.now) result }
 {
     let n = netlist.modules().len();
-    let mut cells = [false; 64];
+    let mut cells = [false; MODULES];
     let at = &mut cells[0..n];
     join(netlist, at);
-    for v in 1..=n {
-        if !at[v - 1] {
-            return Some(v);
-        }
-    }
-    None
+    lowest(n, |v| !at[v - 1])
 }

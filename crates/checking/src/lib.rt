@@ -5,6 +5,7 @@ mod apart;
 mod checked;
 mod link;
 mod loose;
+mod lowest;
 mod rings;
 
 pub use checked::{Checked, check};

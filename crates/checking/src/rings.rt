@@ -6,8 +6,9 @@ ghost use Rattle.netlist.specs.Holds.{modules as modules_in};
 ghost use Rattle.checking.specs.Nets.{Hops};
 ghost use Rattle.checking.specs.Faults.{Ringed};
 
-use crate::link::Link;
-use netlist::Netlist;
+use crate::link::{Link, MOVES};
+use crate::lowest::lowest;
+use netlist::{MODULES, Netlist};
 
 // Whether module `v` is on a ring: whether from where a step out of it leads, steps lead back to it.
 fn is_ringed(netlist: &Netlist, table: &[bool], v: usize) -> bool
@@ -17,7 +18,8 @@ fn is_ringed(netlist: &Netlist, table: &[bool], v: usize) -> bool
     ensures { Decides result (Ringed netlist.now v) }
 {
     let n = netlist.modules().len();
-    let mut cells = [false; 64];
+    // Scratch is fixed arrays, here and below, so that the check cannot fail for memory.
+    let mut cells = [false; MODULES];
     let at = &mut cells[0..n];
     Link::Relays.step_from(netlist, v, at);
     Link::Relays.spread(netlist, table, at);
@@ -29,13 +31,8 @@ pub(crate) fn ringed_module(netlist: &Netlist) -> Option<usize>
     ensures { Finds (modules_in netlist.now) (λ v. Ringed netlist.now v → ⊥) (Ringed netlist.now) result }
 {
     let n = netlist.modules().len();
-    let mut cells = [false; 4096];
+    let mut cells = [false; MOVES];
     let table = &mut cells[0..n * n];
     Link::Relays.fill(netlist, table);
-    for v in 1..=n {
-        if is_ringed(netlist, table, v) {
-            return Some(v);
-        }
-    }
-    None
+    lowest(n, |v| is_ringed(netlist, table, v))
 }

@@ -7,6 +7,6 @@ mod origin;
 mod sum;
 
 pub use core_set::CoreSet;
-pub use number::Number;
+pub use number::{NoNumber, Number};
 pub use origin::{Origin, OriginSet, OriginState};
 pub use sum::SumSet;

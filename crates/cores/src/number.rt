@@ -1,4 +1,7 @@
-ghost use Rattle.std.specs.Prelude.{◌≡◌, ◌-◌, ◌<◌, ◌≤◌, MatchOption};
+ghost use Rattle.std.specs.Prelude.{◌≡◌, ◌-◌, ◌<◌, ◌≤◌, MatchOption, MatchResult};
+
+// The most modules that a chip may have.
+pub(crate) const MODULES: usize = 64;
 
 /// The number of a module, from 1 to 64.
 #[derive(Clone, Copy, PartialEq, Eq, Debug)]
@@ -8,15 +11,37 @@ pub struct Number {
     ghost high: { value ≤ 64 },
 }
 
+/// What is not the number of a module.
+#[derive(Clone, Copy, PartialEq, Eq, Debug)]
+pub struct NoNumber(pub u8);
+
+impl TryFrom<u8> for Number {
+    type Error = NoNumber;
+
+    ghost try_from_gives = { λ value r. MatchResult r (λ v. v.value ≡ value) (λ e. (e.0 ≡ value) × (1 ≤ value → value ≤ 64 → ⊥)) };
+
+    fn try_from(value: u8) -> Result<Number, NoNumber> {
+        if (1..=MODULES).contains(&(value as usize)) {
+            Ok(Number { value })
+        } else {
+            Err(NoNumber(value))
+        }
+    }
+}
+
+impl From<Number> for u8 {
+    ghost from_gives = { λ number value. value ≡ number.value };
+
+    fn from(number: Number) -> u8 {
+        number.get()
+    }
+}
+
 impl Number {
     pub fn new(value: u8) -> Option<Number>
         ensures { MatchOption result (1 ≤ value → value ≤ 64 → ⊥) (λ v. v.value ≡ value) }
     {
-        if value >= 1 && value <= 64 {
-            Some(Number { value })
-        } else {
-            None
-        }
+        Number::try_from(value).ok()
     }
 
     pub fn get(self) -> u8

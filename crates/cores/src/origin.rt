@@ -1,7 +1,9 @@
 ghost use Rattle.std.specs.Prelude.{◌≡◌, ℕ, ◌≤◌};
 ghost use Rattle.cores.specs.Sets.{origin_rules, origin_held, origin_start, reset_origin};
 
+use crate::number::MODULES;
 use crate::{CoreSet, Number};
+use std::array;
 
 /// An item that says which block it is from and how many that block emitted before it, its reset item included.
 #[derive(Clone, Copy, PartialEq, Eq, Debug)]
@@ -32,7 +34,9 @@ pub struct OriginState {
 /// Cores that number what they emit, so that an item found anywhere shows where it came from and when.
 #[derive(Drop)]
 pub struct OriginSet {
-    states: [OriginState; 64],
+    // As in the sum set, an array by `v.index()`: a `States<S>` for both takes a function to make, to read and to write one, each
+    // with its contract, and saves that call alone.
+    states: [OriginState; MODULES],
 }
 
 impl OriginSet {
@@ -40,15 +44,10 @@ impl OriginSet {
     pub fn new() -> OriginSet
         ensures { (v : ℕ) → 1 ≤ v → v ≤ 64 → origin_held result v ≡ origin_start v }
     {
-        let unset = OriginState {
+        let states = array::from_fn(|i| OriginState {
             emits: 0,
-            last: Origin::reset(0),
-        };
-        let mut states = [unset; 64];
-        for i in 0..64 {
-            let last = Origin::reset(i as u8 + 1);
-            states[i] = OriginState { emits: 0, last };
-        }
+            last: Origin::reset(i as u8 + 1),
+        });
         OriginSet { states }
     }
 }

@@ -1,12 +1,14 @@
 ghost use Rattle.std.specs.Prelude.{◌≡◌, ℕ, ◌≤◌};
 ghost use Rattle.cores.specs.Sets.{sum_rules, sum_held};
 
+use crate::number::MODULES;
 use crate::{CoreSet, Number};
 
 /// Cores that add up what they absorb. The items are numbers, so that one item lost, doubled or exchanged changes what comes after it.
 #[derive(Drop)]
 pub struct SumSet {
-    sums: [u32; 64],
+    // Of fixed size, since a run may not fail for memory.
+    sums: [u32; MODULES],
 }
 
 impl SumSet {
@@ -14,7 +16,7 @@ impl SumSet {
     pub fn new() -> SumSet
         ensures { (v : ℕ) → 1 ≤ v → v ≤ 64 → sum_held result v ≡ 0 }
     {
-        SumSet { sums: [0; 64] }
+        SumSet { sums: [0; MODULES] }
     }
 }
 

@@ -1,11 +1,11 @@
-use netlist::Kind;
+use netlist::{Channel, Kind};
 use std::alloc::{AllocError, Global};
 
-/// A netlist that is drawn up module by module. A channel is its source and its sink.
+/// A netlist that is drawn up module by module.
 #[derive(Drop)]
 pub struct Draft {
     kinds: Vec<Kind>,
-    channels: Vec<(u8, u8)>,
+    channels: Vec<Channel>,
 }
 
 impl Draft {
@@ -29,7 +29,7 @@ impl Draft {
 
     /// Adds a channel.
     pub fn join(&mut self, source: u8, sink: u8) -> Result<(), AllocError> {
-        self.channels.push((source, sink))?;
+        self.channels.push(Channel { source, sink })?;
         Ok(())
     }
 
@@ -55,12 +55,12 @@ impl Draft {
     pub fn file(&self, heap: Global) -> Result<Vec<u8>, AllocError> {
         let mut file = Vec::new(heap);
         add_count(&mut file, self.kinds.len())?;
-        for kind in self.kinds.as_slice() {
+        for kind in &self.kinds {
             file.extend_from_slice(&[*kind as u8, 1, b'm'])?;
         }
         add_count(&mut file, self.channels.len())?;
-        for (source, sink) in self.channels.as_slice() {
-            file.extend_from_slice(&[*source, *sink])?;
+        for channel in &self.channels {
+            file.extend_from_slice(&[channel.source, channel.sink])?;
         }
         add_count(&mut file, 0)?;
         Ok(file)

@@ -1,3 +1,5 @@
+ghost use Rattle.std.specs.Prelude.{◌≡◌};
+
 use crate::draft::Draft;
 use netlist::Kind;
 use std::alloc::{AllocError, Global};
@@ -7,7 +9,23 @@ use std::alloc::{AllocError, Global};
 pub struct Shape<'a> {
     pub modules: u8,
     pub blocks: u8,
+    // Pairs, as no other form keeps a table of channels as short.
     pub channels: &'a [(u8, u8)],
+}
+
+impl<'a> Shape<'a> {
+    /// A shape of all 64 modules.
+    pub fn full(blocks: u8, channels: &'a [(u8, u8)]) -> Shape<'a>
+        ensures modules { result.modules ≡ 64 }
+        ensures blocks { result.blocks ≡ blocks }
+        ensures channels { result.channels.now ≡ channels.now }
+    {
+        Shape {
+            modules: 64,
+            blocks,
+            channels,
+        }
+    }
 }
 
 impl Shape<'_> {
@@ -32,25 +50,19 @@ impl Shape<'_> {
 /// The 192 channels of a chain of 62 blocks, in three turns and a part of a fourth, and two relay stations beside its last link.
 /// Channel 192 is that link once more.
 pub fn chain(heap: Global) -> Result<Vec<(u8, u8)>, AllocError> {
-    let mut channels = Vec::new(heap);
-    for number in 0..188u8 {
-        let block = 1 + number % 61;
-        channels.push((block, block + 1))?;
-    }
-    channels.extend_from_slice(&[(61, 63), (63, 64), (64, 62), (61, 62)])?;
-    Ok(channels)
+    (0..188u8)
+        .map(|number| 1 + number % 61)
+        .map(|block| (block, block + 1))
+        .chain([(61, 63), (63, 64), (64, 62), (61, 62)])
+        .collect(heap)
 }
 
 /// The 192 channels of a ring of 64 modules that channel 192 closes, and a way to module 1 from each of the others, in two turns and
 /// a part of a third.
 pub fn ring(heap: Global) -> Result<Vec<(u8, u8)>, AllocError> {
-    let mut channels = Vec::new(heap);
-    for number in 1..64u8 {
-        channels.push((number, number + 1))?;
-    }
-    for number in 0..128u8 {
-        channels.push((1 + number % 63, 1))?;
-    }
-    channels.push((64, 1))?;
-    Ok(channels)
+    (1..64u8)
+        .map(|number| (number, number + 1))
+        .chain((0..128u8).map(|number| (1 + number % 63, 1)))
+        .chain([(64, 1)])
+        .collect(heap)
 }

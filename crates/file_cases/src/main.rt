@@ -5,24 +5,26 @@
 mod files;
 mod outcome;
 
-use crate::files::{SAMPLE, full};
+use crate::files::full;
 use crate::outcome::{outcome, table_outcome};
+use drafts::SAMPLE;
 
 // Every cut of the sample, and one byte more.
 fn cuts(rt: &HostRuntime) -> anyhow::Result<()> {
-    for length in 0..SAMPLE.len() + 1 {
-        let text = outcome(rt.alloc(), &SAMPLE[0..length])?;
+    for length in 0..=SAMPLE.len() {
+        let text = outcome(rt.alloc(), &SAMPLE[..length])?;
         println!(rt; "cut to {length}: {text}")?;
     }
-    let mut longer = [0; 26];
-    longer[0..25].copy_from_slice(&SAMPLE);
-    let text = outcome(rt.alloc(), &longer)?;
+    let mut longer = SAMPLE.to_vec(rt.alloc())?;
+    longer.push(0)?;
+    let text = outcome(rt.alloc(), longer.as_slice())?;
     println!(rt; "one byte more: {text}")?;
     Ok(())
 }
 
 // Every byte of the sample, set to values at the ends of the ranges.
 fn changes(rt: &HostRuntime) -> anyhow::Result<()> {
+    // By index, as each turn writes that entry of a copy of the whole.
     for place in 0..SAMPLE.len() {
         for value in [0, 1, 4, 64, 65, 127, 255] {
             let mut file = SAMPLE;
@@ -65,15 +67,18 @@ fn all_tables(rt: &HostRuntime) -> anyhow::Result<()> {
     tables(rt, "a size without channels", (64, 0, 1), &[])
 }
 
-// What a table that is too short, or longer than need be, holds afterwards.
-fn rooms(rt: &HostRuntime) -> anyhow::Result<()> {
-    let text = table_outcome(rt.alloc(), &SAMPLE, &mut [9; 2])?;
-    println!(rt; "table of 2: {text}")?;
-    let text = table_outcome(rt.alloc(), &SAMPLE[0..24], &mut [])?;
-    println!(rt; "table of 0, cut to 24: {text}")?;
-    let text = table_outcome(rt.alloc(), &SAMPLE, &mut [9; 5])?;
-    println!(rt; "table of 5: {text}")?;
+// Prints what becomes of a file that is read into a table.
+fn show_table(rt: &HostRuntime, label: &str, file: &[u8], sizing: &mut [u8]) -> anyhow::Result<()> {
+    let text = table_outcome(rt.alloc(), file, sizing)?;
+    println!(rt; "{label}: {text}")?;
     Ok(())
+}
+
+// Tables that are too short, or longer than need be.
+fn rooms(rt: &HostRuntime) -> anyhow::Result<()> {
+    show_table(rt, "table of 2", &SAMPLE, &mut [9; 2])?;
+    show_table(rt, "table of 0, cut to 24", &SAMPLE[..24], &mut [])?;
+    show_table(rt, "table of 5", &SAMPLE, &mut [9; 5])
 }
 
 fn main(rt: HostRuntime) -> anyhow::Result<()> {

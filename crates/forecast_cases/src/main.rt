@@ -5,24 +5,10 @@
 mod outcome;
 
 use crate::outcome::outcome;
-use drafts::{Shape, ring};
+use drafts::{ALONE, DIAMOND, ITSELF, PAIR, ROUND, Shape, TRIANGLE, line, ring};
 
 // More entries than any netlist wants.
 const AMPLE: usize = 67;
-
-// Blocks 1 and 2, and relay station 3 on one of two ways from 1 to 2.
-const TRIANGLE: Shape<'static> = Shape {
-    modules: 3,
-    blocks: 2,
-    channels: &[(1, 3), (3, 2), (1, 2)],
-};
-
-// Blocks 1 to 3, and relay station 4 on one of two ways from 1 to 3.
-const DIAMOND: Shape<'static> = Shape {
-    modules: 4,
-    blocks: 3,
-    channels: &[(1, 2), (2, 3), (1, 4), (4, 3)],
-};
 
 // Prints the firings after so many free steps, or the refusal.
 fn show(
@@ -34,7 +20,10 @@ fn show(
     room: usize,
 ) -> anyhow::Result<()> {
     let file = shape.file(rt.alloc())?;
-    let text = outcome(rt.alloc(), file.as_slice(), sizing, steps, room)?;
+    let text = line(
+        rt.alloc(),
+        outcome(rt.alloc(), file.as_slice(), sizing, steps, room),
+    )?;
     println!(rt; "{label}, {steps} steps: {text}")?;
     Ok(())
 }
@@ -60,29 +49,10 @@ fn step_by_step(rt: &HostRuntime) -> anyhow::Result<()> {
 }
 
 fn small(rt: &HostRuntime) -> anyhow::Result<()> {
-    let alone = Shape {
-        modules: 1,
-        blocks: 1,
-        channels: &[],
-    };
-    show(rt, "one block", alone, &[], 1_000_000, 1)?;
-    let itself = Shape {
-        channels: &[(1, 1)],
-        ..alone
-    };
-    show(rt, "one block to itself", itself, &[1], 9, 1)?;
-    let pair = Shape {
-        modules: 2,
-        blocks: 2,
-        channels: &[(1, 2)],
-    };
-    show(rt, "one channel", pair, &[3], 5, 2)?;
-    let round = Shape {
-        modules: 3,
-        blocks: 2,
-        channels: &[(1, 2), (2, 3), (3, 1)],
-    };
-    show(rt, "ring of 3", round, &[1; 3], 100, AMPLE)
+    show(rt, "one block", ALONE, &[], 1_000_000, 1)?;
+    show(rt, "one block to itself", ITSELF, &[1], 9, 1)?;
+    show(rt, "one channel", PAIR, &[3], 5, 2)?;
+    show(rt, "ring of 3", ROUND, &[1; 3], 100, AMPLE)
 }
 
 // All modules and channels, up to the last step that is allowed.
@@ -96,11 +66,7 @@ fn full(rt: &HostRuntime) -> anyhow::Result<()> {
         (1, 20_000),
         (33, 1_000_000),
     ] {
-        let shape = Shape {
-            modules: 64,
-            blocks,
-            channels: channels.as_slice(),
-        };
+        let shape = Shape::full(blocks, channels.as_slice());
         let label = format!(in rt.alloc(); "ring of 64, blocks to {blocks}")?;
         show(rt, label.as_str(), shape, &[16; 192], steps, 64)?;
     }
@@ -124,21 +90,13 @@ fn refused(rt: &HostRuntime) -> anyhow::Result<()> {
     )?;
     show(rt, "all three", DIAMOND, &[1, 1, 1, 0], 1_000_001, 3)?;
     let channels = ring(rt.alloc())?;
-    let shape = Shape {
-        modules: 64,
-        blocks: 31,
-        channels: channels.as_slice(),
-    };
+    let shape = Shape::full(31, channels.as_slice());
     show(rt, "full, list of 63", shape, &[16; 192], 1, 63)
 }
 
-fn run(rt: &HostRuntime) -> anyhow::Result<()> {
-    step_by_step(rt)?;
-    small(rt)?;
-    full(rt)?;
-    refused(rt)
-}
-
 fn main(rt: HostRuntime) -> anyhow::Result<()> {
-    run(&rt)
+    step_by_step(&rt)?;
+    small(&rt)?;
+    full(&rt)?;
+    refused(&rt)
 }

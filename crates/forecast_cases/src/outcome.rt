@@ -1,7 +1,8 @@
 use checking::check;
+use drafts::{netlist_of, spaced};
 use forecasting::forecast;
-use netlist::{Netlist, ReadError, read};
-use std::alloc::{AllocError, Global};
+use netlist::ReadError;
+use std::alloc::Global;
 
 // What the list holds before a forecast: no module fires so often.
 const NO_COUNT: u32 = 7_777_777;
@@ -13,57 +14,32 @@ pub fn outcome(
     sizing: &[u8],
     steps: u32,
     room: usize,
-) -> Result<String, AllocError> {
-    let mut netlist = Netlist::new(heap)?;
-    match read(heap, file, &mut netlist, &mut [0; 192]) {
-        Ok(()) => {}
-        Err(ReadError::Refused(refusal)) => return format!(in heap; "{refusal}, not read"),
-        Err(ReadError::NoMemory) => return Err(AllocError),
-    }
-    let mut firings = vec![in heap; NO_COUNT; room]?;
-    foretold(heap, &netlist, sizing, steps, firings.as_mut_slice())
-}
-
-fn foretold(
-    heap: Global,
-    netlist: &Netlist,
-    sizing: &[u8],
-    steps: u32,
-    firings: &mut [u32],
-) -> Result<String, AllocError> {
-    let checked = match check(netlist) {
-        Ok(checked) => checked,
-        Err(refusal) => return format!(in heap; "{refusal}, not passed"),
-    };
-    match forecast(checked, sizing, steps, firings) {
+) -> Result<String, ReadError> {
+    let netlist = netlist_of(heap, file)?;
+    let checked = check(&netlist)?;
+    let mut list = vec![in heap; NO_COUNT; room]?;
+    let foretold = forecast(checked, sizing, steps, list.as_mut_slice());
+    let firings = list.as_slice();
+    let modules = netlist.modules().len().min(firings.len());
+    let text = match foretold {
         Ok(()) => {
-            let modules = netlist.modules().len();
-            let counts = counts_text(heap, firings, modules)?;
+            let counts = spaced(heap, &firings[0..modules])?;
             let kept = kept_text(firings, modules);
-            format!(in heap; "firings{counts}, rest {kept}")
+            format!(in heap; "firings{counts}, rest {kept}")?
         }
         Err(refusal) => {
             let kept = kept_text(firings, 0);
-            format!(in heap; "{refusal}, list {kept}")
+            format!(in heap; "{refusal}, list {kept}")?
         }
-    }
-}
-
-fn counts_text(heap: Global, firings: &[u32], modules: usize) -> Result<String, AllocError> {
-    let mut text = String::new(heap);
-    for count in firings.iter().take(modules) {
-        let word = format!(in heap; " {count}")?;
-        text.push_str(word.as_str())?;
-    }
+    };
     Ok(text)
 }
 
 // Whether the list still holds what it held, from an entry on.
 fn kept_text(firings: &[u32], from: usize) -> &'static str {
-    for count in firings.iter().skip(from) {
-        if *count != NO_COUNT {
-            return "lost";
-        }
+    if firings.iter().skip(from).all(|count| *count == NO_COUNT) {
+        "kept"
+    } else {
+        "lost"
     }
-    "kept"
 }

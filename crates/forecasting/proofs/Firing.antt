@@ -1,7 +1,6 @@
 -- From the rounds to the firings of the netlist. Assumes nothing.
-use Rattle.std.proofs.Common.{◌≡◌, ℕ, ◌-◌, ◌*◌, ◌<◌, ◌≤◌, List, length, get_or, take, replicate, None, sym, ap, ◌∙◌, arith}
+use Rattle.std.proofs.Common.{◌≡◌, ℕ, ◌-◌, ◌<◌, ◌≤◌, List, length, get_or, take, replicate, None, sym, ap, ◌∙◌, arith}
 use lib.ListN.{get_or-replicate}
-use Rattle.std.proofs.lemmas.Nat.{mul-le}
 use Rattle.std.proofs.lemmas.List.{get_or-take, length-replicate, length-take-le}
 use Rattle.counts.proofs.Bridges.{freely_alike}
 use Rattle.firing.specs.Firings.{firings, free}
@@ -18,10 +17,6 @@ use Rattle.scale.specs.declared.elements.Total.{Total}
 use Rattle.forecasting.specs.Forecasts.{Foretold}
 use Rattle.forecasting.specs.Weights.{Fired, Unfired, Weights}
 use Rattle.forecasting.proofs.Recurrence.{rounds_fire}
-
--- the table of moves has room
-pub moves_fit : (n : ℕ) → n ≤ 64 → n * n ≤ 4096
-moves_fit n few = mul-le n n 64 64 few few
 
 -- the totals of so many modules at first
 pub front_long : (x : Total) (n : ℕ) → n ≤ 64 → length (take n (replicate 64 x)) ≡ n

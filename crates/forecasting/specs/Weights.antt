@@ -1,5 +1,5 @@
 -- Weights of moves, for the contracts of private functions alone. G is a list of places. Assumes nothing.
-use Rattle.std.specs.Prelude.{◌≡◌, ℕ, ◌-◌, ◌^◌, ◌<◌, ◌≤◌, ◌⊎◌, List, length, replicate}
+use Rattle.std.specs.Prelude.{◌≡◌, ℕ, ◌==◌, ◌&&◌, fold, map, min, filter, ◌-◌, ◌^◌, ◌<◌, ◌≤◌, ◌⊎◌, List, length, replicate}
 use Rattle.firing.specs.Firings.{firings, free}
 use Rattle.marked.specs.declared.place.Place.{Place}
 use Rattle.marked.specs.Graphs.{at}
@@ -17,6 +17,10 @@ pub record Lightest (G : List Place) (i u v r : ℕ) : Type 0 where
   pub stays : u ≡ v → r ≤ 1
   pub bound : (p : ℕ) → PlaceFromTo G i u v p → r ≤ (at G p).tokens
   pub reached : (r ≡ 2 ^ 32 - 1) ⊎ (((u ≡ v) × (r ≡ 1)) ⊎ ((p : ℕ) × PlaceFromTo G i u v p × (r ≡ (at G p).tokens)))
+
+-- the least of d and of the tokens of the places that lead from u to v
+abbrev pub least_of : ℕ → ℕ → List Place → ℕ → ℕ
+least_of u v G d = fold (λ a t. min a t) d (map (λ (p : Place). p.tokens) (filter (λ (p : Place). p.from == u && p.to == v) G))
 
 -- the table has the weight of each move between n modules
 abbrev pub Weights : List Place → ℕ → List Total → Type 0

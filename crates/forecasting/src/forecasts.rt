@@ -1,8 +1,6 @@
-ghost use Rattle.std.specs.Prelude.{◌≡◌, ℕ, ◌<◌, ◌≤◌, length, None, slice_index};
-ghost use Rattle.checking.specs.Verdicts.{Passed};
+ghost use Rattle.std.specs.Prelude.{◌≡◌, ℕ, ◌<◌, ◌≤◌, length, slice_index};
 ghost use Rattle.marked.specs.Limits.{Starts};
-ghost use Rattle.netlist.specs.Holds.{channels, modules};
-ghost use Rattle.rating.specs.Sizings.{sizing_fault};
+ghost use Rattle.netlist.specs.Holds.{modules};
 ghost use Rattle.scale.specs.Counts.{element};
 ghost use Rattle.scale.specs.LeastTotal.{least_total};
 ghost use Rattle.std.specs.Int.{IsInRange};
@@ -11,10 +9,9 @@ ghost use Rattle.forecasting.specs.Weights.{Fired, Unfired};
 
 use crate::weights::weigh;
 use checking::Checked;
-use marked::{MODULES, PLACES, Place};
-use netlist::{Cause, Netlist, Refusal};
-use rating::extend::extend;
-use rating::test_sizing;
+use marked::{MODULES, Place};
+use netlist::{Cause, Refusal};
+use rating::{ExtendedGraph, SizedNetlist};
 use scale::elements::Total;
 use scale::rounds::rounds;
 use scale::scale::Scale;
@@ -22,8 +19,8 @@ use scale::scale::Scale;
 /// The most steps of a forecast.
 pub const STEPS: u32 = 1_000_000;
 
-// As many moves as there can be between two modules.
-const MOVES: usize = 4096;
+// The most entries of a table of moves.
+const MOVES: usize = MODULES * MODULES;
 
 /// Puts into the front of `firings` how often each module of a checked netlist has fired after so many free steps under a sizing. The
 /// list wants an entry for each module. Its other entries stay as they were, and all of it on a refusal.
@@ -33,46 +30,35 @@ pub fn forecast(
     steps: u32,
     firings: &mut [u32],
 ) -> Result<(), Refusal>
-    requires { Passed checked.netlist.now }
     ensures { ForecastAnswer checked.entry.netlist.now sizing.now steps firings.old firings.new result }
 {
-    let netlist = checked.netlist();
-    test_sizing(netlist.channels().len(), sizing)?;
+    let chip = SizedNetlist::test(checked.netlist(), sizing)?;
     if steps > STEPS {
-        return Err(Refusal {
-            cause: Cause::BeyondLimit,
-            place: 0,
-        });
+        return Err(Cause::BeyondLimit.into());
     }
-    let modules = netlist.modules().len();
+    let modules = chip.netlist().modules().len();
     if firings.len() < modules {
         return Err(Refusal {
             cause: Cause::ListTooShort,
             place: modules,
         });
     }
-    foretell(netlist, sizing, steps, firings);
+    foretell(chip, steps, firings);
     Ok(())
 }
 
-// The same under a sizing that was tested, into a list with room for every module.
-fn foretell(netlist: &Netlist, sizing: &[u8], steps: u32, firings: &mut [u32])
-    requires sized { sizing_fault (channels netlist.now) sizing.now ≡ None }
+// The same into a list with room for every module.
+fn foretell(chip: SizedNetlist, steps: u32, firings: &mut [u32])
     requires steps { steps ≤ 1000000 }
-    requires room { modules netlist.now ≤ length firings.old }
-    ensures { Foretold netlist.now sizing.now steps firings.old firings.new }
+    requires room { modules chip.netlist.now ≤ length firings.old }
+    ensures { Foretold chip.entry.netlist.now chip.entry.sizing.now steps firings.old firings.new }
 {
-    let nowhere = Place {
-        from: 0,
-        to: 0,
-        tokens: 0,
-    };
-    let mut places = [nowhere; PLACES];
-    let count = extend(netlist, sizing, &mut places);
-    let n = netlist.modules().len();
+    let graph = ExtendedGraph::of(chip);
+    let n = chip.netlist().modules().len();
+    // A forecast may not fail for memory: its lists, here and below, are the fronts of arrays of the largest size.
     let mut cells = [Total::start(); MODULES];
     let totals = &mut cells[0..n];
-    fire(&places[0..count], steps, totals);
+    fire(graph.places(), steps, totals);
     put_sums(totals, firings);
 }
 
@@ -98,6 +84,7 @@ fn put_sums(totals: &[Total], sums: &mut [u32])
     ensures front { (v : ℕ) → v < length totals.now → slice_index sums.new v ≡ (element least_total totals.now v).sum }
     ensures behind { (v : ℕ) → length totals.now ≤ v → slice_index sums.new v ≡ slice_index sums.old v }
 {
+    // No `zip` over `iter_mut`: of what is written through it a proof knows nothing; `enumerate` it knows.
     for (at, total) in totals.iter().enumerate() {
         sums[at] = total.sum;
     }

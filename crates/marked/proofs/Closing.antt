@@ -45,13 +45,13 @@ module _ (w : Weighed) (ls : List Level) (k m j : ℕ) (t : Trail) (rs : Rounds 
   unfolding all
   all_length = length-take-le (j - k) after (omega arith)
 
-  upper : Leads (places_of w) (stop t m) front (stop t j) × (depth_at (level ls j) (stop t j) + w.b * tokens_on (places_of w) front ≡ depth_at (level ls m) (stop t m) + w.a * length front)
+  upper : Leads (places_of w) (stop t m) front (stop t j) × (depth_at (level ls j) (stop t j) + w.target.b * tokens_on (places_of w) front ≡ depth_at (level ls m) (stop t m) + w.target.a * length front)
   unfolding front
   upper =
       chain w ls t.peak rs k t bk front m j hk (omega (arith, front_length)) hj
       (λ i h. let lt : i < j - m = omega (arith, front_length) in get_or-take (j - m) after i 0 lt ∙ first i lt)
 
-  lower : Leads (places_of w) (stop t k) back (stop t m) × (depth_at (level ls m) (stop t m) + w.b * tokens_on (places_of w) back ≡ depth_at (level ls k) (stop t k) + w.a * length back)
+  lower : Leads (places_of w) (stop t k) back (stop t m) × (depth_at (level ls m) (stop t m) + w.target.b * tokens_on (places_of w) back ≡ depth_at (level ls k) (stop t k) + w.target.a * length back)
   unfolding back
   lower =
       chain w ls t.peak rs k t bk back k m (omega arith) (omega (arith, back_length)) (omega arith)
@@ -66,7 +66,7 @@ module _ (w : Weighed) (ls : List Level) (k m j : ℕ) (t : Trail) (rs : Rounds 
     closed = leads_append (places_of w) front back (stop t m) (stop t j) (stop t m) upper.0 (subst (λ x. Leads (places_of w) x back (stop t m)) same lower.0);
   }
 
-  is_slow : Slow w.a w.b (places_of w) (front ++ back)
+  is_slow : Slow w.target.a w.target.b (places_of w) (front ++ back)
   is_slow =
       let x_in : stop t j < 64 = omega (arith, bk.inside j (omega arith) hj, w.graph.some) in
       let before : j ≡ suc (j - 1) = omega arith in
@@ -79,10 +79,10 @@ module _ (w : Weighed) (ls : List Level) (k m j : ℕ) (t : Trail) (rs : Rounds 
         deeper,
         down,
         ap (depth_at (level ls k)) same,
-        ap (λ x. w.b * x) (tokens_append (places_of w) front back),
-        mul-add w.b (tokens_on (places_of w) front) (tokens_on (places_of w) back),
-        ap (λ x. w.a * x) (length-append front back),
-        mul-add w.a (length front) (length back),
+        ap (λ x. w.target.b * x) (tokens_append (places_of w) front back),
+        mul-add w.target.b (tokens_on (places_of w) front) (tokens_on (places_of w) back),
+        ap (λ x. w.target.a * x) (length-append front back),
+        mul-add w.target.a (length front) (length back),
       )
 
   -- the level where the place i of the list starts
@@ -144,12 +144,12 @@ module _ (w : Weighed) (ls : List Level) (k m j : ℕ) (t : Trail) (rs : Rounds 
       omega (arith, s.is, s'.is, ap (stop t) here, least s'.at_level s'.above s'.below)
 
   -- the answer where the way back closes a cycle
-  pub closing : (before : List ℕ) → ((i : ℕ) → j - k ≤ i → get_or after i 0 ≡ get_or before i 0) → Found w.graph.modules w.a w.b (places_of w) before after (j - k)
+  pub closing : (before : List ℕ) → ((i : ℕ) → j - k ≤ i → get_or after i 0 ≡ get_or before i 0) → Found w.graph.modules w.target.a w.target.b (places_of w) before after (j - k)
   unfolding all
   closing before kept = record {
     cycle = subst (Cycle (places_of w)) two_parts is_cycle;
     simple = is_simple;
-    slow = subst (Slow w.a w.b (places_of w)) two_parts is_slow;
+    slow = subst (Slow w.target.a w.target.b (places_of w)) two_parts is_slow;
     lowest_first = is_lowest_first;
     short = omega arith;
     kept = kept;

@@ -33,12 +33,12 @@ module _ (w : Weighed) (ls : List Level) (k : ℕ) (rs : Rounds w ls k) where
       (omega (arith, r.covered p e.0, e.2, e.3, ap (depth_at (level ls h)) e.1))
 
   -- one more place takes at most a off
-  entry_lows : (j v d : ℕ) (via : Option ℕ) (old : Level) → v < 64 → ((x : ℕ) → x < 64 → depth_at old x ≤ w.a * j) → Entry w old v d via → d ≤ w.a * suc j
-  entry_lows j v d None old hv low e = omega (arith, low v hv, mul-suc w.a j)
-  entry_lows j v d (Some p) old hv low e = omega (arith, low (place_of w p).from (from_in w p e.0), e.3, mul-suc w.a j)
+  entry_lows : (j v d : ℕ) (via : Option ℕ) (old : Level) → v < 64 → ((x : ℕ) → x < 64 → depth_at old x ≤ w.target.a * j) → Entry w old v d via → d ≤ w.target.a * suc j
+  entry_lows j v d None old hv low e = omega (arith, low v hv, mul-suc w.target.a j)
+  entry_lows j v d (Some p) old hv low e = omega (arith, low (place_of w p).from (from_in w p e.0), e.3, mul-suc w.target.a j)
 
   -- a walk of j places weighs -a * j at the least
-  pub lows : (j : ℕ) → j ≤ k → (v : ℕ) → v < 64 → depth_at (level ls j) v ≤ w.a * j
+  pub lows : (j : ℕ) → j ≤ k → (v : ℕ) → v < 64 → depth_at (level ls j) v ≤ w.target.a * j
   lows zero h v hv = omega (arith, ap depth (rs.flat v hv))
   lows (suc j) h v hv = entry_lows j v _ _ (level ls j) hv (lows j (omega arith)) ((rs.rounds j (suc j) refl h).entries v hv)
 
@@ -50,7 +50,7 @@ module _ (w : Weighed) (ls : List Level) (k : ℕ) (rs : Rounds w ls k) where
   -- so no sum with a value wraps
   pub low : (j : ℕ) → j ≤ k → j ≤ 64 → Low (level ls j)
   low j h few v hv =
-      let bound : w.a * j ≤ 64 * 64 = mul-le-mul (let h : w.a ≤ 64 = omega (arith, w.proper, w.small) in h) few in
+      let bound : w.target.a * j ≤ 64 * 64 = mul-le-mul (let h : w.target.a ≤ 64 = omega (arith, w.target.proper, w.target.small) in h) few in
       (omega (arith, ints, by_depth (value (level ls j) v) (under j h v hv), lows j h v hv, bound), under j h v hv)
 
 -- one more round

@@ -1,12 +1,11 @@
 -- What the descent from target to target keeps. Assumes nothing.
-use Rattle.std.proofs.Common.{◌≡◌, ℕ, ◌-◌, ◌*◌, ◌/◌, ◌<◌, ◌≤◌, ◌⊎◌, List, ◌++◌, length, get_or, take, drop, ℤ, sym, refl, ap, ◌∙◌, subst, inl, inr, ⊎_elim, arith, length-take-le, get_or-drop}
+use Rattle.std.proofs.Common.{◌≡◌, ℕ, ◌*◌, ◌/◌, ◌<◌, ◌≤◌, ◌⊎◌, List, length, get_or, take, sym, refl, ap, subst, inl, inr, arith, length-take-le}
 use Prim.Native.Nat.{◌∣◌}
 use native.Mathlib.Nat.{eq-one_of_dvd-one}
-use Rattle.std.proofs.lemmas.List.{take_at, get_or-append_right}
 use Rattle.marked.specs.declared.place.Place.{Place}
 use Rattle.marked.specs.Graphs.{tokens_on}
 use Rattle.marked.specs.Rates.{Coprime, Shown}
-use Rattle.marked.specs.Answers.{Found, Settled, Measured}
+use Rattle.marked.specs.Answers.{Found}
 use Rattle.marked.specs.Rounds.{Reduced}
 use Rattle.marked.proofs.Fractions.{fall, below_one}
 use Rattle.marked.proofs.Walks.{leads_inside}
@@ -74,36 +73,3 @@ part n G a b before after k m f few room e = (
       (leads_inside G (take k after) f.cycle.hub f.cycle.hub f.cycle.closed),
   omega (arith, length-take-le m after (omega (arith, f.short)), f.short),
 )
-
--- the answer where no cycle is slow for the target: the first k places go into the caller's list
-module _ (n : ℕ) (G : List Place) (p l k : ℕ) (cs : List ℕ) (s : Sought n G p l k cs) (long : n ≤ length cs)
-    (vs old vs' : List ℤ) (same : old ≡ vs) (was : Settled n p l G old vs') (before written : List ℕ) (m : ℕ) (e : m ≡ k) (is : written ≡ take m cs) where
-  settles : Settled n p l G vs vs'
-  settles = subst (λ x. Settled n p l G x vs') same was
-
-  k_in : k ≤ n
-  k_in = ⊎_elim (λ h. omega (arith, h)) (λ h. h.0) s.shown
-
-  written_length : length written ≡ k
-  written_length = ap length is ∙ length-take-le m cs (omega (arith, k_in)) ∙ e
-
-  front : take k (written ++ drop m before) ≡ take k cs
-  front = take_at written (drop m before) k written_length ∙ is ∙ ap (λ x. take x cs) e
-
-  pub measured : Measured n G p l k vs vs' before (written ++ drop m before)
-  measured = record {
-    is_rate = record {
-      coprime = s.coprime;
-      positive = s.positive;
-      proper = s.proper;
-      bound = settles.reaches;
-      reached = ⊎_elim (λ h. inl (h.1, h.2)) (λ h. inr (take k cs, h.2.cycle, h.2.exact)) s.shown;
-    };
-    short = s.short;
-    shown = ⊎_elim inl (λ h. inr (h.0, h.1, subst (Shown p l G) (sym front) h.2)) s.shown;
-    settled = settles;
-    kept = λ i h.
-        get_or-append_right written (drop m before) k i 0 written_length h
-        ∙ get_or-drop m before (i - k) 0
-        ∙ ap (λ x. get_or before x 0) (omega arith);
-  }

@@ -17,7 +17,7 @@ record Reach (w : Weighed) (v d : ℕ) : Type 0 where
   source : ℕ
   walk : List ℕ
   leads : Leads (places_of w) source walk v
-  sum : d + w.b * tokens_on (places_of w) walk ≡ w.a * length walk
+  sum : d + w.target.b * tokens_on (places_of w) walk ≡ w.target.a * length walk
 
 module _ (w : Weighed) where
   -- one more place at the end of a walk, where one lowered v
@@ -34,24 +34,24 @@ module _ (w : Weighed) where
           arith,
           r.sum,
           e.3,
-          ap (λ h. w.b * h) (tokens_append (places_of w) ps (p ∷ [])),
-          mul-add w.b (tokens_on (places_of w) ps) ((place_of w p).tokens + 0),
-          mul-add w.b (place_of w p).tokens 0,
-          mul-zero w.b,
-          ap (λ h. w.a * h) (length_push ps p),
-          mul-add w.a (length ps) 1,
-          mul-one w.a,
+          ap (λ h. w.target.b * h) (tokens_append (places_of w) ps (p ∷ [])),
+          mul-add w.target.b (tokens_on (places_of w) ps) ((place_of w p).tokens + 0),
+          mul-add w.target.b (place_of w p).tokens 0,
+          mul-zero w.target.b,
+          ap (λ h. w.target.a * h) (length_push ps p),
+          mul-add w.target.a (length ps) 1,
+          mul-one w.target.a,
         );
       }
 
   -- each value is the weight of a walk
   reach : (ls : List Level) (k : ℕ) → Rounds w ls k → (j : ℕ) → j ≤ k → (v : ℕ) → v < 64 → Reach w v (depth_at (level ls j) v)
-  reach ls k rs zero h v hv = record { source = v; walk = []; leads = refl; sum = omega (arith, ap depth (rs.flat v hv), mul-zero w.a, mul-zero w.b) }
+  reach ls k rs zero h v hv = record { source = v; walk = []; leads = refl; sum = omega (arith, ap depth (rs.flat v hv), mul-zero w.target.a, mul-zero w.target.b) }
   reach ls k rs (suc j) h v hv = reach_entry (level ls j) v _ _ hv (reach ls k rs j (omega arith)) ((rs.rounds j (suc j) refl h).entries v hv)
 
   -- no place offers less than the level l has
   Still : Level → Type 0
-  Still l = (p : ℕ) → p < length (places_of w) → depth_at l (place_of w p).from + w.a ≤ depth_at l (place_of w p).to + w.b * (place_of w p).tokens
+  Still l = (p : ℕ) → p < length (places_of w) → depth_at l (place_of w p).from + w.target.a ≤ depth_at l (place_of w p).to + w.target.b * (place_of w p).tokens
 
   -- a round that lowers nothing shows that the level is still
   still : (l next : Level) → Relaxed w (length (places_of w)) l next → ((v : ℕ) → v < w.graph.modules → via_at next v ≡ None) → Still l
@@ -63,11 +63,11 @@ module _ (w : Weighed) where
       omega (arith, same, r.covered p h)
 
   -- along a walk no more is gained than it weighs
-  along : (l : Level) → Still l → (ps : List ℕ) (u v : ℕ) → Leads (places_of w) u ps v → depth_at l u + w.a * length ps ≤ depth_at l v + w.b * tokens_on (places_of w) ps
+  along : (l : Level) → Still l → (ps : List ℕ) (u v : ℕ) → Leads (places_of w) u ps v → depth_at l u + w.target.a * length ps ≤ depth_at l v + w.target.b * tokens_on (places_of w) ps
   unfolding Still
-  along l s [] u v e = omega (arith, ap (depth_at l) e, mul-zero w.a, mul-zero w.b)
+  along l s [] u v e = omega (arith, ap (depth_at l) e, mul-zero w.target.a, mul-zero w.target.b)
   along l s (p ∷ ps) u v e =
-      omega (arith, s p e.0, ap (depth_at l) e.1, along l s ps (place_of w p).to v e.2, mul-add w.b (place_of w p).tokens (tokens_on (places_of w) ps), mul-suc w.a (length ps))
+      omega (arith, s p e.0, ap (depth_at l) e.1, along l s ps (place_of w p).to v e.2, mul-add w.target.b (place_of w p).tokens (tokens_on (places_of w) ps), mul-suc w.target.a (length ps))
 
   -- the answer where a round lowers nothing
   pub settled : (ls : List Level) (k : ℕ) (next : Level) (before after : List ℤ) → Rounds w ls k
@@ -75,7 +75,7 @@ module _ (w : Weighed) where
       → Relaxed w (length (places_of w)) (level ls k) next → ((v : ℕ) → v < w.graph.modules → via_at next v ≡ None)
       → ((v : ℕ) → v < w.graph.modules → get_or after v (pos 0) ≡ value (level ls k) v)
       → ((v : ℕ) → w.graph.modules ≤ v → get_or after v (pos 0) ≡ get_or before v (pos 0))
-      → Settled w.graph.modules w.a w.b (places_of w) before after
+      → Settled w.graph.modules w.target.a w.target.b (places_of w) before after
   settled ls k next before after rs hk r none written kept = record {
     reaches = λ ps c. omega (arith, along l quiet ps c.hub c.hub c.closed);
     potentials = λ v hv.
@@ -84,12 +84,12 @@ module _ (w : Weighed) where
           source = walk.source;
           walk = walk.walk;
           leads = walk.leads;
-          reached = omega (arith, ints, is v hv, walk.sum, weights_is w.a w.b (places_of w) walk.walk);
-          bound = λ u ps e. omega (arith, ints, is v hv, along l quiet ps u v e, weights_is w.a w.b (places_of w) ps);
+          reached = omega (arith, ints, is v hv, walk.sum, weights_is w.target.a w.target.b (places_of w) walk.walk);
+          bound = λ u ps e. omega (arith, ints, is v hv, along l quiet ps u v e, weights_is w.target.a w.target.b (places_of w) ps);
         };
     range = λ v hv.
         let v_in : v < 64 = omega (arith, w.graph.some) in
-        let most : w.a * k ≤ w.a * (w.graph.modules - 1) = mul-le-mul_left w.a (let h : k ≤ w.graph.modules - 1 = omega arith in h) in
+        let most : w.target.a * k ≤ w.target.a * (w.graph.modules - 1) = mul-le-mul_left w.target.a (let h : k ≤ w.graph.modules - 1 = omega arith in h) in
         (omega (arith, ints, is v hv, lows w ls k rs k (omega arith) v v_in, most), omega (arith, ints, is v hv));
     kept = kept;
   }

@@ -1,7 +1,9 @@
 -- Walks joined and taken apart, their tokens and their weights. Assumes nothing.
-use Rattle.std.proofs.Common.{◌≡◌, ℕ, zero, suc, ◌+◌, ◌*◌, ◌<◌, List, [], ◌∷◌, ◌++◌, length, get_or, take, drop, pos, ◌-ℤ◌, sym, refl, subst, mul-zero, mul-suc, mul-add, arith}
+use Rattle.std.proofs.Common.{◌≡◌, ℕ, zero, suc, ◌+◌, ◌*◌, ◌<◌, ◌≤◌, List, [], ◌∷◌, ◌++◌, length, get_or, take, drop, sum_by, pos, ◌-ℤ◌, sym, refl, subst, mul-zero, mul-suc, mul-add, arith}
 use Rattle.std.proofs.lemmas.Int.{ints}
+use Rattle.std.proofs.lemmas.List.Sums.{sum_by-cons}
 use Rattle.marked.specs.declared.place.Place.{Place}
+use Rattle.marked.specs.Limits.{Light}
 use Rattle.marked.specs.Graphs.{at, start, Leads, tokens_on, weights}
 
 -- a walk, and then one from where it ends
@@ -13,6 +15,16 @@ leads_append G (p ∷ ps) qs u v w l m = (l.0, l.1, leads_append G ps qs (at G p
 pub tokens_append : (G : List Place) (ps qs : List ℕ) → tokens_on G (ps ++ qs) ≡ tokens_on G ps + tokens_on G qs
 tokens_append G [] qs = omega arith
 tokens_append G (p ∷ ps) qs = omega (arith, tokens_append G ps qs)
+
+-- the tokens as the sum of a chain
+pub tokens_summed : (G : List Place) (ps : List ℕ) → sum_by (λ p. (at G p).tokens) ps ≡ tokens_on G ps
+tokens_summed G [] = refl
+tokens_summed G (p ∷ ps) = omega (arith, sum_by-cons (λ q. (at G q).tokens) p ps, tokens_summed G ps)
+
+-- the tokens of a walk in the graph: each place holds 17 at most
+pub tokens_few : (G : List Place) → Light G → (ps : List ℕ) → ((i : ℕ) → i < length ps → get_or ps i 0 < length G) → tokens_on G ps ≤ 17 * length ps
+tokens_few G light [] h = omega arith
+tokens_few G light (p ∷ ps) h = omega (arith, light p (h 0 (omega arith)), tokens_few G light ps (λ i l. h (suc i) (omega arith)))
 
 -- the places of a walk are places of the graph
 pub leads_inside : (G : List Place) (ps : List ℕ) (u v : ℕ) → Leads G u ps v → (i : ℕ) → i < length ps → get_or ps i 0 < length G

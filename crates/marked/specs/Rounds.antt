@@ -1,9 +1,11 @@
 -- Words of the program's own working: levels, rounds, the way back, lowest terms. Only contracts of private functions cite them.
 -- No value of a level is above 0, so the rules speak of the natural number by which it is below. Assumes nothing.
-use Rattle.std.specs.Prelude.{◌≡◌, ℕ, suc, ◌+◌, ◌*◌, ◌<◌, ◌≤◌, true, List, [], length, ℤ, pos, negsuc, neg_ℤ, ◌≤ℤ◌, is_some, Some, None, Option, ◌≢◌, slice_index, slice_index_or}
+use Rattle.std.specs.Prelude.{◌≡◌, ℕ, suc, ◌+◌, ◌*◌, ◌<◌, ◌≤◌, true, List, [], length, ℤ, pos, negsuc, neg_ℤ, ◌≤ℤ◌, is_some, Some, None, Option, ◌≢◌, slice_index_or}
 use Rattle.marked.specs.declared.place.Place.{Place}
 use Rattle.marked.specs.declared.weighed.Weighed.{Weighed}
+use Rattle.marked.specs.declared.level.Arrival.{Arrival}
 use Rattle.marked.specs.declared.level.Level.{Level}
+use Rattle.marked.specs.declared.trail.Stop.{Stop}
 use Rattle.marked.specs.declared.trail.Trail.{Trail}
 use Rattle.marked.specs.Graphs.{at}
 use Rattle.marked.specs.Rates.{Coprime}
@@ -16,9 +18,13 @@ places_of w = w.graph.places.now
 abbrev pub place_of : Weighed → ℕ → Place
 place_of w p = at (places_of w) p
 
+-- how a level reaches module v
+abbrev pub arrival : Level → ℕ → Arrival
+arrival l v = slice_index_or l.arrivals v (record { value = pos 0; via = None })
+
 -- the value of module v at a level
 abbrev pub value : Level → ℕ → ℤ
-value l v = slice_index_or l.values v (pos 0)
+value l v = (arrival l v).value
 
 -- how far an integer is below 0
 abbrev pub depth : ℤ → ℕ
@@ -31,7 +37,7 @@ depth_at l v = depth (value l v)
 
 -- the place by which the level lowered module v, if it did
 abbrev pub via_at : Level → ℕ → Option ℕ
-via_at l v = slice_index_or l.via v None
+via_at l v = (arrival l v).via
 
 -- the level lowered module v
 abbrev pub Lowered : Level → ℕ → Type 0
@@ -41,13 +47,13 @@ Lowered l v = is_some (via_at l v) ≡ true
 abbrev pub Entry : Weighed → Level → ℕ → ℕ → Option ℕ → Type 0
 Entry w old v d None = d ≡ depth_at old v
 Entry w old v d (Some p) =
-    (p < length (places_of w)) × ((place_of w p).to ≡ v) × (depth_at old v < d) × (d + w.b * (place_of w p).tokens ≡ depth_at old (place_of w p).from + w.a)
+    (p < length (places_of w)) × ((place_of w p).to ≡ v) × (depth_at old v < d) × (d + w.target.b * (place_of w p).tokens ≡ depth_at old (place_of w p).from + w.target.a)
 
 -- the first i places have been relaxed, from `old` to `new`
 pub record Relaxed (w : Weighed) (i : ℕ) (old new : Level) : Type 0 where
   pub entries : (v : ℕ) → v < 64 → Entry w old v (depth_at new v) (via_at new v)
   pub under : (v : ℕ) → v < 64 → value new v ≤ℤ pos 0
-  pub covered : (p : ℕ) → p < i → depth_at old (place_of w p).from + w.a ≤ depth_at new (place_of w p).to + w.b * (place_of w p).tokens
+  pub covered : (p : ℕ) → p < i → depth_at old (place_of w p).from + w.target.a ≤ depth_at new (place_of w p).to + w.target.b * (place_of w p).tokens
 
 -- the range of the values: no sum with one of them wraps
 abbrev pub Low : Level → Type 0
@@ -55,7 +61,7 @@ Low l = (v : ℕ) → v < 64 → (neg_ℤ (pos 4096) ≤ℤ value l v) × (value
 
 -- level k of a list of levels
 abbrev pub blank : Level
-blank = record { values = []; via = [] }
+blank = record { arrivals = [] }
 
 abbrev pub level : List Level → ℕ → Level
 level ls k = slice_index_or ls k blank
@@ -70,14 +76,18 @@ pub record Step (w : Weighed) (old new : Level) (x y p : ℕ) : Type 0 where
   pub inside : p < length (places_of w)
   pub leaves : (place_of w p).from ≡ x
   pub enters : (place_of w p).to ≡ y
-  pub sinks : depth_at new y + w.b * (place_of w p).tokens ≡ depth_at old x + w.a
+  pub sinks : depth_at new y + w.target.b * (place_of w p).tokens ≡ depth_at old x + w.target.a
+
+-- a stop that no trail has
+abbrev pub nowhere : Stop
+nowhere = record { passes = 0; place = 0 }
 
 -- the module at level i, and the place by which it was entered
 abbrev pub stop : Trail → ℕ → ℕ
-stop t i = slice_index t.modules i
+stop t i = (slice_index_or t.stops i nowhere).passes
 
 abbrev pub taken : Trail → ℕ → ℕ
-taken t i = slice_index t.places i
+taken t i = (slice_index_or t.stops i nowhere).place
 
 -- the trail is a way back from its peak to level k, along places that lowered the modules
 pub record Back (w : Weighed) (ls : List Level) (k : ℕ) (t : Trail) : Type 0 where
@@ -92,7 +102,7 @@ Apart k t = (i j : ℕ) → k ≤ i → i < j → j ≤ t.peak → stop t i ≢ 
 -- what a way back from level `peak` answers: it closes a slow cycle, or there are more modules than rounds
 abbrev pub Tried : Weighed → ℕ → List ℕ → List ℕ → Option ℕ → Type 0
 Tried w peak cs cs' None = (peak < w.graph.modules) × (cs' ≡ cs)
-Tried w peak cs cs' (Some k) = Found w.graph.modules w.a w.b (places_of w) cs cs' k
+Tried w peak cs cs' (Some k) = Found w.graph.modules w.target.a w.target.b (places_of w) cs cs' k
 
 -- p/l is x/y in lowest terms
 pub record Reduced (x y p l : ℕ) : Type 0 where

@@ -1,6 +1,6 @@
 // A graph that keeps the limits. What this file imports may name no `Graph`, since the struct's
 // invariant imports it too.
-ghost use Rattle.std.specs.Prelude.{◌≡◌, ◌≤◌, length, Decides};
+ghost use Rattle.std.specs.Prelude.{◌≡◌, ◌≤◌, ◌↔◌, length, Decides, IfSome, IsSome};
 ghost use Rattle.std.specs.Int.{IsInRange};
 ghost use Rattle.marked.specs.Limits.{Starts, Ends, Light, Fit};
 
@@ -20,24 +20,29 @@ pub struct Graph<'g> {
 }
 
 impl<'g> Graph<'g> {
-    /// Whether so many modules and these places are a graph: ask before `new` where it is not known.
-    /// (The two are not one call that returns an `Option`, since the prover does not cover an enum that
-    /// holds a struct with both an invariant and a reference.)
+    /// Whether so many modules and these places are a graph.
     pub fn fits(modules: usize, places: &[Place]) -> bool
         ensures { Decides result (Fit modules places.now) }
     {
-        if modules < 1 || modules > MODULES || places.len() > PLACES {
-            return false;
-        }
-        for place in places {
-            if place.from >= modules || place.to >= modules || place.tokens > TOKENS {
-                return false;
-            }
-        }
-        true
+        let keeps = |place: &Place| {
+            place.from < modules && place.to < modules && place.tokens <= TOKENS
+        };
+        (1..=MODULES).contains(&modules) && places.len() <= PLACES && places.iter().all(keeps)
     }
 
-    /// The graph of so many modules and these places.
+    /// The graph of so many modules and these places, if they are one.
+    pub fn checked(modules: usize, places: &'g [Place]) -> Option<Graph<'g>>
+        ensures exactly { IsSome result ↔ Fit modules places.now }
+        ensures same { IfSome result (λ g. (g.modules ≡ modules) × (g.places.now ≡ places.now)) }
+    {
+        if Graph::fits(modules, places) {
+            Some(Graph::new(modules, places))
+        } else {
+            None
+        }
+    }
+
+    /// The graph of so many modules and these places, where it is known that they are one.
     pub fn new(modules: usize, places: &'g [Place]) -> Graph<'g>
         requires fit { Fit modules places.now }
         ensures modules { result.modules ≡ modules }

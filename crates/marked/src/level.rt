@@ -1,55 +1,75 @@
 // One round of relaxation. Level 0 is 0 at each module; level k + 1 is the least that level k offers
 // along one more place, or what it was. So level k has the least weight of the walks of at most k
 // places to each module, and once a round lowers nothing, no longer walk weighs less either.
-ghost use Rattle.std.specs.Prelude.{◌≡◌, ℕ, ◌+◌, ◌<◌, ◌≤◌, length, pos, None as Nothing, MatchOption, slice_index_or};
-ghost use Rattle.marked.specs.Rounds.{Low, Lowered, Relaxed, places_of, value, via_at};
+ghost use Rattle.std.specs.Prelude.{◌≡◌, ℕ, ◌<◌, ◌≤◌, ◌≢◌, ◌<ℤ◌, ◌≤ℤ◌, length, pos, None as Nothing, MatchOption, slice_index_or};
+ghost use Rattle.marked.specs.Rounds.{Low, Lowered, Relaxed, arrival, places_of, value, via_at};
 
 use crate::place::MODULES;
 use crate::weighed::Weighed;
 
-// The least weight by which a walk of at most so many places leads to each module, and the last place
-// of the walk where the level before had more.
+// The least weight by which a walk of at most so many places leads to a module, and the last place of
+// the walk where the level before had more.
+#[derive(Clone, Copy)]
+pub(crate) struct Arrival {
+    value: i32,
+    pub(crate) via: Option<u16>,
+}
+
+// How each module is reached. An array for the most modules: a rating may not fail for memory.
 #[derive(Clone, Copy)]
 pub(crate) struct Level {
-    values: [i32; MODULES],
-    pub(crate) via: [Option<u16>; MODULES],
+    pub(crate) arrivals: [Arrival; MODULES],
 }
 
 impl Level {
     // Level 0: the walk of no place leads to each module, and weighs 0.
     pub(crate) const START: Level = Level {
-        values: [0; MODULES],
-        via: [None; MODULES],
+        arrivals: [Arrival {
+            value: 0,
+            via: None,
+        }; MODULES],
     };
 
-    // Lowers the module where the place `i` ends to what the place offers from the level `old`. It reads
-    // only `old`, since a value of this level may already be that of a longer walk.
-    fn relax(&mut self, weighed: Weighed, i: usize, old: &Level)
-        requires within { i < length (places_of weighed) }
-        requires low { Low old.now }
-        requires so_far { Relaxed weighed i old.now self.old }
-        ensures { Relaxed weighed.entry (i + 1) old.now self.new }
+    // The values of this level, none of which is lowered yet.
+    fn unlowered(&self) -> Level
+        ensures { (v : ℕ) → v < 64 → (value result v ≡ value self.now v) × (via_at result v ≡ Nothing) }
     {
-        let place = weighed.graph.places[i];
-        let weight = (weighed.b * place.tokens) as i32 - weighed.a as i32;
-        let offered = old.values[place.from] + weight;
-        if offered < self.values[place.to] {
-            self.values[place.to] = offered;
-            self.via[place.to] = Some(i as u16);
+        let mut arrivals = self.arrivals;
+        for arrival in &mut arrivals {
+            arrival.via = None;
+        }
+        Level { arrivals }
+    }
+
+    // Lowers the module v to an arrival, if that is lower.
+    fn offer(&mut self, v: usize, offered: Arrival)
+        requires { v < 64 }
+        ensures other { (u : ℕ) → u ≢ v → arrival self.new u ≡ arrival self.old u }
+        ensures less { offered.value <ℤ value self.old v → arrival self.new v ≡ offered }
+        ensures more { value self.old v ≤ℤ offered.value → arrival self.new v ≡ arrival self.old v }
+    {
+        let present = &mut self.arrivals[v];
+        if offered.value < present.value {
+            *present = offered;
         }
     }
 
-    // The level after this one.
+    // The level after this one. A round reads only this level, since a value of the next may already be
+    // that of a longer walk.
     pub(crate) fn next(&self, weighed: Weighed) -> Level
         requires low { Low self.now }
         ensures { Relaxed weighed.entry (length (places_of weighed.entry)) self.now result }
     {
-        let mut new = Level {
-            values: self.values,
-            via: [None; MODULES],
-        };
-        for i in 0..weighed.graph.places.len() {
-            new.relax(weighed, i, self);
+        let mut new = self.unlowered();
+        for (i, place) in weighed.graph.places.iter().enumerate() {
+            let value = self.arrivals[place.from].value + weighed.weight(*place);
+            new.offer(
+                place.to,
+                Arrival {
+                    value,
+                    via: Some(i as u16),
+                },
+            );
         }
         new
     }
@@ -59,12 +79,9 @@ impl Level {
         requires { modules ≤ 64 }
         ensures { MatchOption result ((v : ℕ) → v < modules → via_at self.now v ≡ Nothing) (λ v. (v < modules) × Lowered self.now v) }
     {
-        for v in 0..modules {
-            if self.via[v].is_some() {
-                return Some(v);
-            }
-        }
-        None
+        self.arrivals[..modules]
+            .iter()
+            .position(|arrival| arrival.via.is_some())
     }
 
     // Writes the values of so many modules as their potentials.
@@ -74,8 +91,9 @@ impl Level {
         ensures written { (v : ℕ) → v < modules → slice_index_or potentials.new v (pos 0) ≡ value self.now v }
         ensures kept { (v : ℕ) → modules ≤ v → slice_index_or potentials.new v (pos 0) ≡ slice_index_or potentials.old v (pos 0) }
     {
-        for v in 0..modules {
-            potentials[v] = self.values[v];
+        // No `zip`: of what is written through an adapter of `iter_mut` other than `enumerate`, a proof knows nothing.
+        for (v, arrival) in self.arrivals[..modules].iter().enumerate() {
+            potentials[v] = arrival.value;
         }
     }
 }

@@ -8,6 +8,7 @@ mod level;
 mod place;
 mod rates;
 mod slow;
+mod target;
 mod trail;
 mod weighed;
 
@@ -16,6 +17,7 @@ pub use laws::short_cycles_decide;
 pub use place::{MODULES, PLACES, Place, TOKENS};
 pub use rates::{Rated, rate, tokens_on};
 pub use slow::slow_cycle;
+pub use target::Target;
 
 #[cfg(test)]
 mod tests {
@@ -50,11 +52,13 @@ mod tests {
         let mut potentials = [7; 4];
         let mut cycle = [9; 4];
         let places = ring();
-        if !Graph::fits(3, &places) {
+        let Some(graph) = Graph::checked(3, &places) else {
             return Err(Fail::new("no graph"));
-        }
-        let graph = Graph::new(3, &places);
-        let found = slow_cycle(graph, 1, 2, &mut potentials, &mut cycle);
+        };
+        let Some(half) = Target::new(1, 2) else {
+            return Err(Fail::new("no target"));
+        };
+        let found = slow_cycle(graph, half, &mut potentials, &mut cycle);
         assert_eq!(rt; found, Some(3));
         assert_eq!(rt; cycle, [2, 0, 1, 9]);
         assert_eq!(rt; potentials, [7, 7, 7, 7]);
@@ -66,10 +70,10 @@ mod tests {
         let mut potentials = [7; 4];
         let mut cycle = [9; 4];
         let places = ring();
-        if !Graph::fits(3, &places) {
+        let Some(graph) = Graph::checked(3, &places) else {
             return Err(Fail::new("no graph"));
-        }
-        let rated = rate(Graph::new(3, &places), &mut potentials, &mut cycle);
+        };
+        let rated = rate(graph, &mut potentials, &mut cycle);
         assert_eq!(rt; (rated.rate, rated.length), ((1, 3), 3));
         assert_eq!(rt; cycle, [2, 0, 1, 9]);
         assert_eq!(rt; potentials, [-1, -2, 0, 7]);
@@ -82,10 +86,10 @@ mod tests {
         let mut cycle = [9; 3];
         // There and back, with three tokens on two places.
         let places = [place(0, 1, 2), place(1, 0, 1)];
-        if !Graph::fits(2, &places) {
+        let Some(graph) = Graph::checked(2, &places) else {
             return Err(Fail::new("no graph"));
-        }
-        let rated = rate(Graph::new(2, &places), &mut potentials, &mut cycle);
+        };
+        let rated = rate(graph, &mut potentials, &mut cycle);
         assert_eq!(rt; (rated.rate, rated.length), ((1, 1), 0));
         assert_eq!(rt; cycle, [9, 9, 9]);
         assert_eq!(rt; potentials, [0, 0, 7]);

@@ -7,10 +7,12 @@ ghost use Rattle.marked.specs.Rounds.{level, places_of, value};
 
 use crate::graph::Graph;
 use crate::level::Level;
-use crate::trail::{LEVELS, walk_back};
+use crate::target::Target;
+use crate::trail::{LEVELS, Trail};
 use crate::weighed::Weighed;
 
 // Makes the levels one by one, until a round lowers no module or the way back from one closes a cycle.
+// `potentials` and `cycle` are no struct: the public calls take the two as slices, so would have to make one.
 fn search(
     weighed: Weighed,
     levels: &mut [Level],
@@ -20,9 +22,10 @@ fn search(
     requires long { weighed.graph.modules < length levels.old }
     requires flat { (v : ℕ) → v < 64 → value (level levels.old 0) v ≡ pos 0 }
     requires room { (weighed.graph.modules ≤ length potentials.old) × (weighed.graph.modules ≤ length cycle.old) }
-    ensures { Searched weighed.entry.graph.modules weighed.entry.a weighed.entry.b (places_of weighed.entry) potentials.old potentials.new cycle.old cycle.new result }
+    ensures { Searched weighed.entry.graph.modules weighed.entry.target.a weighed.entry.target.b (places_of weighed.entry) potentials.old potentials.new cycle.old cycle.new result }
 {
     let modules = weighed.graph.modules;
+    // By number: a round's number says too when it is followed by a way back.
     for k in 0..modules {
         let next = levels[k].next(weighed);
         let Some(top) = next.lowered(modules) else {
@@ -34,28 +37,27 @@ fn search(
         if k + 1 < modules && k % 4 != 3 {
             continue;
         }
-        if let Some(length) = walk_back(weighed, levels, k + 1, top, cycle) {
+        if let Some(length) = Trail::walk_back(weighed, levels, k + 1, top, cycle) {
             return Some(length);
         }
     }
     unreachable()
 }
 
-/// Looks for a slow cycle: one with fewer than `a` tokens to `b` places. `None`: there is none, and
-/// `potentials` has the potential of each module at `a`/`b`. `Some(length)`: the first `length` entries
+/// Looks for a slow cycle: one whose mean is below the target. `None`: there is none, and
+/// `potentials` has the potential of each module at the target. `Some(length)`: the first `length` entries
 /// of `cycle` are one; it passes no module twice, and starts at the lowest that it passes. What is not
 /// the answer's stays as it was.
 pub fn slow_cycle(
     graph: Graph,
-    a: u32,
-    b: u32,
+    target: Target,
     potentials: &mut [i32],
     cycle: &mut [u16],
 ) -> Option<usize>
-    requires target { (a ≤ b) × (b ≤ 64) }
     requires room { (graph.modules ≤ length potentials.old) × (graph.modules ≤ length cycle.old) }
-    ensures { Searched graph.entry.modules a b graph.entry.places.now potentials.old potentials.new cycle.old cycle.new result }
+    ensures { Searched graph.entry.modules target.a target.b graph.entry.places.now potentials.old potentials.new cycle.old cycle.new result }
 {
+    // An array of the most levels: a rating may not fail for memory.
     let mut levels = [Level::START; LEVELS];
-    search(Weighed { graph, a, b }, &mut levels, potentials, cycle)
+    search(Weighed { graph, target }, &mut levels, potentials, cycle)
 }

@@ -75,7 +75,7 @@ first_by file x h (starves s) =
 first_by file x h (refuses j front rest e w s) =
     first_found file front rest (cause_of j) (length rest + width j) (length front - width j) x e h (s.stays rest) (omega arith)
     (first_judged j (length front - width j) front rest (omega arith) s)
-first_by file x h (gives c front [] e s) = absurd (let z : ◌≡◌ {A = ℕ} 0 1 = cc (s.stays []) in omega arith)
+first_by file x h (gives c front [] e s) = cc (s.stays [])
 first_by file x h (gives c front (b ∷ rest) e s) =
     first_found file front (b ∷ rest) ByteAfterEnd (suc (length rest)) (length front) x e h (s.stays (b ∷ rest)) refl (first_late c front rest b s)
 
@@ -85,9 +85,9 @@ first_fault file x h = first_by file x h (contents_sees file)
 -- By the same rule, no byte is too many.
 all_needed : (file : List ℕ) (c : Contents) → contents file ≡ Ok c → Sees close contents file → Short contents file (length file)
 all_needed file c h (starves s) = λ k l. s k (omega arith)
-all_needed file c h (refuses j front rest e w s) = absurd (let z : ◌≡◌ {A = ℕ} 0 1 = cc (s.stays rest) in omega arith)
+all_needed file c h (refuses j front rest e w s) = cc (s.stays rest)
 all_needed file c h (gives d front [] e s) = rw (e, append-nil) s.short
-all_needed file c h (gives d front (b ∷ rest) e s) = absurd (let z : ◌≡◌ {A = ℕ} 0 1 = cc (s.stays (b ∷ rest)) in omega arith)
+all_needed file c h (gives d front (b ∷ rest) e s) = cc (s.stays (b ∷ rest))
 
 pub needs_all : NeedsAll
 needs_all file c h =

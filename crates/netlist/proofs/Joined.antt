@@ -1,16 +1,12 @@
 -- What was gathered, and what is coming.
-use Rattle.std.proofs.Common.{◌≡◌, ℕ, ◌+◌, ◌<◌, ◌≤◌, List, [], ◌∷◌, ◌++◌, map, length, Some, Ok, Err, string_bytes, Option, Result, refl, subst, append_assoc, append-nil, arith, length-append, Bor}
+use Rattle.std.proofs.Common.{◌≡◌, ℕ, ◌+◌, ◌<◌, ◌≤◌, List, length, Some, Ok, Err, Option, Result, refl, subst, append_assoc, arith, length-append}
 use Rattle.netlist.specs.declared.record.Record.{Record}
 use Rattle.netlist.specs.Faults.{before, join, nothing, verdict}
 use Rattle.netlist.specs.declared.refusal.Refusal.{Refusal}
 use Rattle.netlist.specs.Layout.{Contents}
-use Rattle.netlist.specs.Holds.{entry_of}
 use Rattle.netlist.specs.Scans.{Next, Shorter, held}
-use Rattle.std.proofs.lemmas.List.{map-append}
 use Rattle.netlist.specs.declared.record.Record.TheVariants.{Module as AModule, Channel as AChannel, Size as ASize}
-use Rattle.netlist.specs.declared.netlist.Module.{Module}
 use Rattle.netlist.specs.declared.channel.Channel.{Channel}
-use Rattle.netlist.specs.declared.kind.Kind.{Kind}
 
 pub before_before : {E : Type 0} (a b : Contents) (x : Result Contents E) → before a (before b x) ≡ before (join a b) x
 before_before a b (Ok c) = simp append_assoc
@@ -24,13 +20,6 @@ gathers_more file a b r was is f w j = rw (f, w, j) (before_before a (held r) is
 pub gathers_none : {E : Type 0} (x : Result Contents E) → x ≡ before nothing x
 gathers_none (Ok c) = refl
 gathers_none (Err e) = refl
-
--- One more module, with a name.
-pub added_module : (new old : List Module) (m : Module) (cs : List Channel) (ss : List ℕ) (r : Record) (kind : Kind) (text : Bor (List ℕ))
-    → r ≡ AModule kind text → new ≡ old ++ (m ∷ []) → m.kind ≡ kind → string_bytes m.name.text ≡ text.now
-    → ◌≡◌ {A = Contents} (record { modules = map entry_of new; channels = cs; sizes = ss })
-    (join (record { modules = map entry_of old; channels = cs; sizes = ss }) (held r))
-added_module new old m cs ss r kind text is e k t = rw (is, e, ← k, ← t) (simp (map-append, append-nil))
 
 -- What a call of `next` promised, where it gave a record.
 pub next_some : {E : Type 0} (o : Option Record) (r : Record) (was is : Result Contents E) → o ≡ Some r → Next was (Ok o) is → was ≡ before (held r) is

@@ -1,5 +1,5 @@
 -- What a file that is read without a flaw holds is valid, and the file is its layout.
-use Rattle.std.proofs.Common.{◌≡◌, ℕ, zero, suc, ◌+◌, ◌*◌, ◌/◌, ◌%◌, ◌≤◌, Bool, true, ◌||◌, eqb, ◌⊎◌, List, [], ◌∷◌, ◌++◌, length, Ok, Err, Result, refl, ap, ◌∙◌, append_assoc, arith}
+use Rattle.std.proofs.Common.{◌≡◌, ℕ, zero, suc, ◌/◌, ◌%◌, ◌≤◌, true, ◌||◌, eqb, ◌⊎◌, List, [], ◌∷◌, ◌++◌, length, Ok, Err, Result, refl, ap, ◌∙◌, append_assoc, arith}
 use Rattle.std.proofs.lemmas.Bool.Decides.{nat_tests}
 use Rattle.std.specs.Int.{IsInRange, is_in_range}
 use Rattle.std.specs.List.{AllByRecursion}
@@ -8,30 +8,14 @@ use Rattle.netlist.specs.declared.channel.Channel.{Channel}
 use Rattle.netlist.specs.Faults.{one_channel, one_module, one_size, before, byte, channel, channels, contents, count, entry, join, kind_of, modules, name, nothing, sizes}
 use Rattle.netlist.specs.Layout.{Contents, Entry, Says, channel_bytes, kind_byte, module_bytes, two}
 use Rattle.netlist.specs.Limits.{Named}
-use Rattle.netlist.proofs.Sound.{NameOk, byte_ok, channel_ok, name_ok, ok_parts, passed, then_ok, within_in}
+use Rattle.netlist.proofs.Sound.{CountOk, NameOk, byte_ok, channel_ok, count_ok, name_ok, ok_parts, then_ok, within_in}
 
 before_ok : (a : Contents) (x : Result Contents Flaw) (c : Contents) → before a x ≡ Ok c → (d : Contents) × (x ≡ Ok d) × (join a d ≡ c)
 before_ok a (Ok d) c h = (d, refl, cc)
-before_ok a (Err e) c h = absurd (let z : ◌≡◌ {A = ℕ} 0 1 = cc in omega arith)
-
--- A count that was read.
-record Counted (bytes : List ℕ) (v : ℕ) (rest : List ℕ) : Type 0 where
-  high : ℕ
-  low : ℕ
-  laid : bytes ≡ high ∷ low ∷ rest
-  is : 256 * high + low ≡ v
-
-counted : (allowed : ℕ → Bool) (bytes : List ℕ) (v : ℕ) (rest : List ℕ) → count allowed bytes ≡ Ok (v, rest) → (allowed v ≡ true) × Counted bytes v rest
-counted allowed [] v rest h = absurd (let z : ◌≡◌ {A = ℕ} 0 1 = cc in omega arith)
-counted allowed (x ∷ []) v rest h = absurd (let z : ◌≡◌ {A = ℕ} 0 1 = cc in omega arith)
-counted allowed (x ∷ y ∷ bytes) v rest h =
-    let p = passed (allowed (256 * x + y)) (256 * x + y, bytes) (v, rest) _ h in
-    let same = ap (λ (p : ℕ × List ℕ). p.0) p.1 in
-    let after = ap (λ (p : ℕ × List ℕ). p.1) p.1 in
-    (rw same at p.0, record { high = x; low = y; laid = rw after refl; is = same })
+before_ok a (Err e) c h = cc
 
 -- No count of a file is above 192, so its high byte is 0.
-counted_laid : (bytes : List ℕ) (v : ℕ) (rest : List ℕ) → v ≤ 192 → Counted bytes v rest → bytes ≡ two v ++ rest
+counted_laid : (bytes : List ℕ) (v : ℕ) (rest : List ℕ) → v ≤ 192 → CountOk bytes v rest → bytes ≡ two v ++ rest
 counted_laid bytes v rest l k =
     let a : k.high ≡ v / 256 = omega (arith, k.is) in
     let b : k.low ≡ v % 256 = omega (arith, k.is) in
@@ -50,7 +34,7 @@ sizes_more k s bytes rest d c h l i e =
 
 sizes_said : (k : ℕ) (bytes : List ℕ) (c : Contents) → sizes k bytes ≡ Ok c → SizesSaid k bytes c
 sizes_said zero [] c h = let e : nothing ≡ c = cc in rw (← e) (record { modules = refl; channels = refl; long = refl; each = tt; laid = refl })
-sizes_said zero (b ∷ bytes) c h = absurd (let z : ◌≡◌ {A = ℕ} 0 1 = cc in omega arith)
+sizes_said zero (b ∷ bytes) c h = cc
 sizes_said (suc k) bytes c h =
     let p = then_ok (byte 1 16 bytes) (λ s rest. before (one_size s) (sizes k rest)) c h in
     let q = before_ok (one_size p.0) (sizes k p.1) c p.3 in
@@ -77,7 +61,7 @@ sized_by v e h = grind (arith, nat_tests)
 sized_few : (v e : ℕ) → e ≤ 192 → (v ≡ 0) ⊎ (v ≡ e) → v ≤ 192
 sized_few v e l h = omega (arith, h)
 
-channels_none : (n e v : ℕ) (bytes rest : List ℕ) (c : Contents) → e ≤ 192 → (eqb v 0 || eqb v e) ≡ true → Counted bytes v rest → SizesSaid v rest c → ChannelsSaid n e 0 bytes c
+channels_none : (n e v : ℕ) (bytes rest : List ℕ) (c : Contents) → e ≤ 192 → (eqb v 0 || eqb v e) ≡ true → CountOk bytes v rest → SizesSaid v rest c → ChannelsSaid n e 0 bytes c
 channels_none n e v bytes rest c l h k s =
     record {
       modules = s.modules;
@@ -103,7 +87,7 @@ channels_more n e k bytes rest m d c a b l i j =
 channels_said : (n e k : ℕ) (bytes : List ℕ) (c : Contents) → e ≤ 192 → channels n e k bytes ≡ Ok c → ChannelsSaid n e k bytes c
 channels_said n e zero bytes c l h =
     let p = then_ok (count (λ s. eqb s 0 || eqb s e) bytes) (λ s rest. sizes s rest) c h in
-    let t = counted (λ s. eqb s 0 || eqb s e) bytes p.0 p.1 p.2 in
+    let t = count_ok (λ s. eqb s 0 || eqb s e) bytes p.0 p.1 p.2 in
     channels_none n e p.0 bytes p.1 c l t.0 t.1 (sizes_said p.0 p.1 c p.3)
 channels_said n e (suc k) bytes c l h =
     let p = then_ok (channel n bytes) (λ m rest. before (one_channel m) (channels n e k rest)) c h in
@@ -150,7 +134,7 @@ record ModulesSaid (n k : ℕ) (bytes : List ℕ) (c : Contents) : Type 0 where
   each : AllByRecursion (IsInRange 1 16) c.sizes
   laid : bytes ≡ module_bytes c.modules ++ wiring c.channels c.sizes
 
-modules_none : (n e : ℕ) (bytes rest : List ℕ) (c : Contents) → e ≤ 192 → Counted bytes e rest → ChannelsSaid n e e rest c → ModulesSaid n 0 bytes c
+modules_none : (n e : ℕ) (bytes rest : List ℕ) (c : Contents) → e ≤ 192 → CountOk bytes e rest → ChannelsSaid n e e rest c → ModulesSaid n 0 bytes c
 modules_none n e bytes rest c l k s =
     record {
       long = rw s.modules refl;
@@ -177,7 +161,7 @@ modules_more n k bytes rest m d c o i j =
 modules_said : (n k : ℕ) (bytes : List ℕ) (c : Contents) → modules n k bytes ≡ Ok c → ModulesSaid n k bytes c
 modules_said n zero bytes c h =
     let p = then_ok (count (is_in_range 0 192) bytes) (λ e rest. channels n e e rest) c h in
-    let t = counted (is_in_range 0 192) bytes p.0 p.1 p.2 in
+    let t = count_ok (is_in_range 0 192) bytes p.0 p.1 p.2 in
     let few = (within_in 0 192 p.0 t.0).1 in
     modules_none n p.0 bytes p.1 c few t.1 (channels_said n p.0 p.0 p.1 c few p.3)
 modules_said n (suc k) bytes c h =
@@ -185,7 +169,7 @@ modules_said n (suc k) bytes c h =
     let q = before_ok (one_module p.0) (modules n k p.1) c p.3 in
     modules_more n k bytes p.1 p.0 q.0 c (entry_said bytes p.0 p.1 p.2) (modules_said n k p.1 q.0 q.1) q.2
 
-said_by : (n : ℕ) (bytes rest : List ℕ) (c : Contents) → IsInRange 1 64 n → Counted bytes n rest → ModulesSaid n n rest c → Says bytes c
+said_by : (n : ℕ) (bytes rest : List ℕ) (c : Contents) → IsInRange 1 64 n → CountOk bytes n rest → ModulesSaid n n rest c → Says bytes c
 said_by n bytes rest c h k s =
     record {
       valid = record { some = rw s.long h; named = s.named; few = s.few; ends = rw s.long s.ends; sized = s.sized; sizes = s.each };
@@ -195,5 +179,5 @@ said_by n bytes rest c h k s =
 pub said : (bytes : List ℕ) (c : Contents) → contents bytes ≡ Ok c → Says bytes c
 said bytes c h =
     let p = then_ok (count (is_in_range 1 64) bytes) (λ n rest. modules n n rest) c h in
-    let t = counted (is_in_range 1 64) bytes p.0 p.1 p.2 in
+    let t = count_ok (is_in_range 1 64) bytes p.0 p.1 p.2 in
     said_by p.0 bytes p.1 c (within_in 1 64 p.0 t.0) t.1 (modules_said p.0 p.0 p.1 c p.3)

@@ -12,7 +12,7 @@ use Rattle.netlist.specs.Limits.{Named, Shown}
 -- What stands behind an `Ok` that came by two steps.
 pub then_ok : {A B : Type 0} (x : Reading A) (f : A → List ℕ → Result B Flaw) (b : B) → then x f ≡ Ok b → (a : A) × (rest : List ℕ) × (x ≡ Ok (a, rest)) × (f a rest ≡ Ok b)
 then_ok (Ok p) f b h = (p.0, p.1, refl, h)
-then_ok (Err e) f b h = absurd (let z : ◌≡◌ {A = ℕ} 0 1 = cc in omega arith)
+then_ok (Err e) f b h = cc
 
 pub within_in : (lo hi b : ℕ) → is_in_range lo hi b ≡ true → IsInRange lo hi b
 within_in lo hi b h = (grind (arith, nat_tests), grind (arith, nat_tests))
@@ -26,10 +26,10 @@ ok_parts {A} a b r s h =
 -- The test that let a value through.
 pub passed : {A : Type 0} (t : Bool) (x y : A) (f : Flaw) → cond t (Ok x) (Err f) ≡ Ok y → (t ≡ true) × (x ≡ y)
 passed true x y f h = (refl, cc)
-passed false x y f h = absurd (let z : ◌≡◌ {A = ℕ} 0 1 = cc in omega arith)
+passed false x y f h = cc
 
 pub byte_ok : (lo hi : ℕ) (bytes : List ℕ) (b : ℕ) (rest : List ℕ) → byte lo hi bytes ≡ Ok (b, rest) → IsInRange lo hi b × (bytes ≡ b ∷ rest)
-byte_ok lo hi [] b rest h = absurd (let z : ◌≡◌ {A = ℕ} 0 1 = cc in omega arith)
+byte_ok lo hi [] b rest h = cc
 byte_ok lo hi (x ∷ bytes) b rest h =
     let p = passed (is_in_range lo hi x) (x, bytes) (b, rest) _ h in
     let same = ap (λ (p : ℕ × List ℕ). p.0) p.1 in
@@ -116,11 +116,20 @@ channel_ok n bytes c rest h =
 pub channel_shorter : (n : ℕ) (bytes : List ℕ) (c : Channel) (rest : List ℕ) → channel n bytes ≡ Ok (c, rest) → length rest < length bytes
 channel_shorter n bytes c rest h = rw (channel_ok n bytes c rest h).laid (omega arith)
 
-pub count_ok : (allowed : ℕ → Bool) (bytes : List ℕ) (v : ℕ) (rest : List ℕ) → count allowed bytes ≡ Ok (v, rest) → (allowed v ≡ true) × (length rest ≤ length bytes)
-count_ok allowed [] v rest h = absurd (let z : ◌≡◌ {A = ℕ} 0 1 = cc in omega arith)
-count_ok allowed (x ∷ []) v rest h = absurd (let z : ◌≡◌ {A = ℕ} 0 1 = cc in omega arith)
+pub record CountOk (bytes : List ℕ) (v : ℕ) (rest : List ℕ) : Type 0 where
+  pub high : ℕ
+  pub low : ℕ
+  pub laid : bytes ≡ high ∷ low ∷ rest
+  pub is : 256 * high + low ≡ v
+
+pub count_ok : (allowed : ℕ → Bool) (bytes : List ℕ) (v : ℕ) (rest : List ℕ) → count allowed bytes ≡ Ok (v, rest) → (allowed v ≡ true) × CountOk bytes v rest
+count_ok allowed [] v rest h = cc
+count_ok allowed (x ∷ []) v rest h = cc
 count_ok allowed (x ∷ y ∷ bytes) v rest h =
     let p = passed (allowed (256 * x + y)) (256 * x + y, bytes) (v, rest) _ h in
     let same = ap (λ (p : ℕ × List ℕ). p.0) p.1 in
     let after = ap (λ (p : ℕ × List ℕ). p.1) p.1 in
-    (rw same at p.0, rw after (omega arith))
+    (rw same at p.0, record { high = x; low = y; laid = rw after refl; is = same })
+
+pub count_shorter : (allowed : ℕ → Bool) (bytes : List ℕ) (v : ℕ) (rest : List ℕ) → count allowed bytes ≡ Ok (v, rest) → length rest ≤ length bytes
+count_shorter allowed bytes v rest h = rw (count_ok allowed bytes v rest h).1.laid (omega arith)

@@ -44,6 +44,13 @@ name (suc n) bytes = then (byte 33 126 bytes) (λ b rest. then (name n rest) (λ
 abbrev pub kind_of : ℕ → Kind
 kind_of k = cond (k == 0) Block RelayStation
 
+-- the kind of a kind byte, and a kind at the front
+abbrev pub kind_at : ℕ → Result Kind Cause
+kind_at k = cond (is_in_range 0 1 k) (Ok (kind_of k)) (Err ValueOutOfRange)
+
+abbrev pub kind : List ℕ → Reading Kind
+kind bytes = then (byte 0 1 bytes) (λ k rest. Ok (kind_of k, rest))
+
 -- a module: its kind, the length of its name, and the name
 abbrev pub entry : List ℕ → Reading Entry
 entry bytes =

@@ -3,7 +3,6 @@
 
 mod channel;
 mod flaw;
-mod fresh;
 mod gather;
 mod judge;
 mod kind;
@@ -21,7 +20,7 @@ pub use channel::Channel;
 pub use kind::Kind;
 pub use laws::{a_file_says_its_layout, faults_come_first};
 pub use name::Name;
-pub use netlist::{Module, Netlist};
+pub use netlist::{CHANNELS, MODULES, Module, Netlist};
 pub use reader::Reader;
 pub use reading::{ReadError, read};
 pub use record::Record;

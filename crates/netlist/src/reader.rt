@@ -1,9 +1,8 @@
 ghost use Rattle.std.specs.Prelude.{◌≡◌};
-ghost use Rattle.netlist.specs.Faults.{placed_flaw, verdict};
+ghost use Rattle.netlist.specs.Faults.{verdict};
 ghost use Rattle.netlist.specs.Reads.{coming, rest_of};
 ghost use Rattle.netlist.specs.Scans.{FairNext, Next, Shorter};
 
-use crate::flaw::Flaw;
 use crate::record::Record;
 use crate::refusal::Refusal;
 use crate::scan::Scan;
@@ -28,24 +27,14 @@ impl<'f> Reader<'f> {
     }
 
     /// The next record, none at the end of the file, or the file's fault. After the end or a fault it answers the same again.
+    // No `Iterator`, for which `judge` and `gather` have loops: since a fault is answered again, one over a faulty file would not
+    // end. One that ends needs a flag whether the fault has been given, and both would still leave their `for` by `?`.
     pub fn next(&mut self) -> Result<Option<Record<'f>>, Refusal>
         ensures reads { Next (coming self.old) result (coming self.new) }
         ensures fair { FairNext result }
         ensures shorter { Shorter (rest_of self.old) result (rest_of self.new) }
     {
-        match self.scan.next() {
-            Ok(record) => Ok(record),
-            Err(flaw) => Err(self.refusal(flaw)),
-        }
-    }
-
-    // The flaw with its place from the front. The scan never stands past the end, so nothing is cut off.
-    fn refusal(&self, flaw: Flaw) -> Refusal
-        ensures { result ≡ placed_flaw self.now.size flaw }
-    {
-        Refusal {
-            cause: flaw.cause,
-            place: self.size.saturating_sub(flaw.left),
-        }
+        let size = self.size;
+        self.scan.next().map_err(|flaw| flaw.placed(size))
     }
 }

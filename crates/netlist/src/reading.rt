@@ -44,31 +44,23 @@ pub fn read(
 {
     let count = judge(file)?;
     if sizing.len() < count {
-        return Err(ReadError::Refused(Refusal {
-            cause: Cause::ListTooShort,
-            place: count,
-        }));
+        return Err(Cause::ListTooShort.at(count).into());
     }
     let Gathered {
         modules,
         channels,
         sizes,
     } = gather(heap, file)?;
-    put_sizes(sizing, sizes.as_slice(), count);
+    put_sizes(&mut sizing[..count], &sizes);
     *netlist = Netlist { modules, channels };
     Ok(())
 }
 
-// Puts the sizes, or 1 where there are none, into the first `count` entries.
-fn put_sizes(sizing: &mut [u8], sizes: &[u8], count: usize)
-    requires { count ≤ length sizing.old }
-    ensures front { (k : ℕ) → k < count → slice_index sizing.new k ≡ slice_index_or sizes.now k 1 }
-    ensures back { (k : ℕ) → count ≤ k → slice_index sizing.new k ≡ slice_index sizing.old k }
+// Puts the sizes in front, and 1 where there are none.
+fn put_sizes(table: &mut [u8], sizes: &[u8])
+    requires { length sizes.now ≤ length table.old }
+    ensures { (k : ℕ) → k < length table.old → slice_index table.new k ≡ slice_index_or sizes.now k 1 }
 {
-    for at in 0..count {
-        sizing[at] = match sizes.get(at) {
-            Some(size) => *size,
-            None => 1,
-        };
-    }
+    table.fill(1);
+    table[..sizes.len()].copy_from_slice(sizes);
 }

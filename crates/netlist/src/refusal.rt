@@ -47,6 +47,21 @@ impl Cause {
     {
         self as u8
     }
+
+    /// A refusal for this cause at a place.
+    pub fn at(self, place: usize) -> Refusal
+        ensures { result ≡ record { cause = self; place = place } }
+    {
+        Refusal { cause: self, place }
+    }
+}
+
+impl From<Cause> for u8 {
+    ghost from_gives = { λ cause number. number ≡ number_of cause };
+
+    fn from(cause: Cause) -> u8 {
+        cause.number()
+    }
 }
 
 /// Why a call refuses, and where: a byte's place in a file from 0, the number of a module or channel, or the least length of a
@@ -55,6 +70,15 @@ impl Cause {
 pub struct Refusal {
     pub cause: Cause,
     pub place: usize,
+}
+
+// A refusal that names no place.
+impl From<Cause> for Refusal {
+    ghost from_gives = { λ cause r. r ≡ record { cause = cause; place = 0 } };
+
+    fn from(cause: Cause) -> Refusal {
+        cause.at(0)
+    }
 }
 
 impl fmt::Display for Refusal {

@@ -1,18 +1,20 @@
 ghost use Rattle.std.specs.Prelude.{◌≡◌, ◌<◌, true, false, length, IfOk, OnOk};
 ghost use Rattle.netlist.specs.Faults.{contents};
-ghost use Rattle.netlist.specs.Scans.{Fair, FairNext, Next, Shorter, Takes, Turns, ahead, at_count};
+ghost use Rattle.netlist.specs.Scans.{Fair, FairNext, Next, Shorter, Takes, Turns, ahead, at_count, first_in};
+ghost use Rattle.netlist.specs.Splits.{SplitsRecord};
 
 use crate::flaw::Flaw;
+use crate::netlist::{CHANNELS, MODULES};
 use crate::record::Record;
 use crate::refusal::Cause;
-use crate::splits::{split_byte, split_channel, split_count, split_module, split_sizing_count};
+use crate::splits::{split_channel, split_count, split_module, split_size};
 
-// The section that is being read; at the start not even the first count has been.
+// The section that is being read, with the counts so far that are still needed; at the start not even the first has been read.
 #[derive(Clone, Copy)]
 pub(crate) enum Section {
     Start,
-    Modules,
-    Channels,
+    Modules { modules: u8 },
+    Channels { modules: u8, channels: u8 },
     Sizes,
 }
 
@@ -24,8 +26,6 @@ pub(crate) struct Scan<'f> {
     section: Section,
     // How many records are left in the section.
     left: u8,
-    modules: u8,
-    channels: u8,
 }
 
 impl<'f> Scan<'f> {
@@ -37,8 +37,6 @@ impl<'f> Scan<'f> {
             rest: file,
             section: Section::Start,
             left: 0,
-            modules: 0,
-            channels: 0,
         }
     }
 
@@ -49,9 +47,10 @@ impl<'f> Scan<'f> {
         ensures shorter { Shorter self.old.rest.now result self.new.rest.now }
     {
         while self.at_count() {
-            if !self.turn()? {
+            let Some(turned) = self.turned()? else {
                 return Ok(None);
-            }
+            };
+            *self = turned;
         }
         let record = self.item()?;
         Ok(Some(record))
@@ -61,50 +60,44 @@ impl<'f> Scan<'f> {
     fn at_count(&self) -> bool
         ensures { result ≡ at_count self.now }
     {
-        match self.section {
-            Section::Start => true,
-            _ => self.left == 0,
-        }
+        matches!(self.section, Section::Start) || self.left == 0
     }
 
-    // Goes on to the next section; false at the end of the file.
-    fn turn(&mut self) -> Result<bool, Flaw>
-        requires { at_count self.old ≡ true }
-        ensures { Turns self.old result self.new }
+    // The scan at the next section, none at the end of the file.
+    fn turned(&self) -> Result<Option<Scan<'f>>, Flaw>
+        requires { at_count self.now ≡ true }
+        ensures { Turns self.now result }
     {
         match self.section {
             Section::Start => {
-                let (count, rest) = split_count(self.rest, 1, 64)?;
-                self.section = Section::Modules;
-                self.left = count;
-                self.modules = count;
-                self.rest = rest;
-                Ok(true)
+                let (modules, rest) = split_count(
+                    self.rest,
+                    |n| (1..=MODULES).contains(&(n as usize)),
+                )?;
+                Ok(Some(Scan {
+                    rest,
+                    section: Section::Modules { modules },
+                    left: modules,
+                }))
             }
-            Section::Modules => {
-                let (count, rest) = split_count(self.rest, 0, 192)?;
-                self.section = Section::Channels;
-                self.left = count;
-                self.channels = count;
-                self.rest = rest;
-                Ok(true)
+            Section::Modules { modules } => {
+                let (channels, rest) = split_count(self.rest, |n| n as usize <= CHANNELS)?;
+                Ok(Some(Scan {
+                    rest,
+                    section: Section::Channels { modules, channels },
+                    left: channels,
+                }))
             }
-            Section::Channels => {
-                let (count, rest) = split_sizing_count(self.rest, self.channels)?;
-                self.section = Section::Sizes;
-                self.left = count;
-                self.rest = rest;
-                Ok(true)
+            Section::Channels { channels, .. } => {
+                let (left, rest) = split_count(self.rest, |n| n == 0 || n == channels)?;
+                Ok(Some(Scan {
+                    rest,
+                    section: Section::Sizes,
+                    left,
+                }))
             }
-            Section::Sizes => {
-                if self.rest.is_empty() {
-                    return Ok(false);
-                }
-                Err(Flaw {
-                    cause: Cause::ByteAfterEnd,
-                    left: self.rest.len(),
-                })
-            }
+            Section::Sizes if self.rest.is_empty() => Ok(None),
+            Section::Sizes => Err(Flaw::at(Cause::ByteAfterEnd, self.rest)),
         }
     }
 
@@ -115,26 +108,22 @@ impl<'f> Scan<'f> {
         ensures fair { IfOk result Fair }
         ensures shorter { OnOk result (length self.new.rest.now < length self.old.rest.now) }
     {
+        let (record, rest) = self.first()?;
+        self.rest = rest;
+        self.left -= 1;
+        Ok(record)
+    }
+
+    // That record, and the bytes after it.
+    fn first(&self) -> Result<(Record<'f>, &'f [u8]), Flaw>
+        requires { at_count self.now ≡ false }
+        ensures { SplitsRecord (first_in self.now.section self.now.rest.now) result }
+    {
         match self.section {
-            Section::Start => unreachable(),
-            Section::Modules => {
-                let (kind, name, rest) = split_module(self.rest)?;
-                self.rest = rest;
-                self.left -= 1;
-                Ok(Record::Module { kind, name })
-            }
-            Section::Channels => {
-                let (channel, rest) = split_channel(self.rest, self.modules)?;
-                self.rest = rest;
-                self.left -= 1;
-                Ok(Record::Channel(channel))
-            }
-            Section::Sizes => {
-                let (size, rest) = split_byte(self.rest, 1, 16)?;
-                self.rest = rest;
-                self.left -= 1;
-                Ok(Record::Size(size))
-            }
+            Section::Start => unreachable!(),
+            Section::Modules { .. } => split_module(self.rest),
+            Section::Channels { modules, .. } => split_channel(self.rest, modules),
+            Section::Sizes => split_size(self.rest),
         }
     }
 }

@@ -47,8 +47,8 @@ module _ {C Item State : Type 0} (rules : C → Rules Item State) (held : C → 
         let hd = td.stands.flows.each (e - 1) (inside e in_it) in
         let took = c.firings ((net_of n sizing).sink (e - 1)) in
         ap (λ (i : ℕ). get_or table i d) (at e in_it (took + k))
-        ∙ waiting (queue_at w (e - 1)) table true before took (put (net_of n sizing) c (e - 1)) (items (chip_of n sizing (rules cores) (held cores)) (e - 1)) hd refl (run.inner.sounds (e - 1) (inside e in_it)).1 k d (omega (arith, hd.count, less));
-    room = λ e in_it. let hd = td.stands.flows.each (e - 1) (inside e in_it) in omega (arith, hd.count, (run.inner.sounds (e - 1) (inside e in_it)).1, td.stands.matches.size (e - 1));
+        ∙ waiting (queue_at w (e - 1)) table true before took (put (net_of n sizing) c (e - 1)) (items (chip_of n sizing (rules cores) (held cores)) (e - 1)) hd refl (run.inner.channels.sounds (e - 1) (inside e in_it)).1 k d (omega (arith, hd.count, less));
+    room = λ e in_it. let hd = td.stands.flows.each (e - 1) (inside e in_it) in omega (arith, hd.count, (run.inner.channels.sounds (e - 1) (inside e in_it)).1, td.stands.matches.size (e - 1));
     latest = λ e in_it k less near d.
         let hd = td.stands.flows.each (e - 1) (inside e in_it) in
         ap (λ (i : ℕ). get_or table i d) (at e in_it k) ∙ hd.items refl k d less (omega (arith, near, td.stands.matches.size (e - 1)));

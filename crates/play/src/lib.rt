@@ -6,6 +6,6 @@ mod exchange;
 mod plays;
 mod trials;
 
-pub use exchange::{Answer, Exchange, Request};
+pub use exchange::{Answer, Exchange, Reply, Request};
 pub use plays::play;
 pub use trials::trial;

@@ -3,79 +3,47 @@ ghost use Rattle.calls.specs.Calls.{Count, after, counted_from};
 ghost use Rattle.queues.specs.Strict.{Chip};
 ghost use Rattle.rating.specs.Ratings.{HoldsRate};
 ghost use Rattle.run.specs.Tells.{Tells};
-ghost use Rattle.play.specs.Answers.{answer, answered_from, as_done, as_item, as_number, asked, calls_of};
+ghost use Rattle.play.specs.Answers.{answer, answered_from, asked, calls_of};
 ghost use Rattle.play.specs.Trials.{Played};
 
-use crate::exchange::{Answer, Exchange, Request};
+use crate::exchange::{Answer, Exchange, Reply, Request};
 use cores::CoreSet;
-use netlist::Refusal;
 use rating::Rating;
 use run::Run;
 
-fn done<T: Copy>(res: Result<(), Refusal>) -> Answer<T>
-    ensures { result ≡ as_done res }
-{
-    match res {
-        Ok(()) => Answer::Done,
-        Err(why) => Answer::Refused(why),
-    }
-}
-
-fn number<T: Copy>(res: Result<u32, Refusal>) -> Answer<T>
-    ensures { result ≡ as_number res }
-{
-    match res {
-        Ok(n) => Answer::Number(n),
-        Err(why) => Answer::Refused(why),
-    }
-}
-
-fn item<T: Copy>(res: Result<Option<T>, Refusal>) -> Answer<T>
-    ensures { result ≡ as_item res }
-{
-    match res {
-        Ok(Some(item)) => Answer::Item(item),
-        Ok(None) => Answer::Empty,
-        Err(why) => Answer::Refused(why),
-    }
-}
-
-fn fill<C: CoreSet>(run: &Run<C>, channel: u8) -> Result<u32, Refusal>
-    ensures { (chip : Chip C.Item C.State) (c : Count) (before table : List C.Item) → Tells true C.CoreSet.rules C.CoreSet.held chip c before run.now table → as_number {Item = C.Item} result ≡ answer chip c (asked 0 (Request.Fill channel)) }
-{
-    match run.fill(channel) {
-        Ok(n) => Ok(n as u32),
-        Err(why) => Err(why),
-    }
-}
-
-// How many entries a call is lent that asks for n, of a table of so many.
+// How many entries a call is lent that asks for n, of a table of so many. The part itself is lent at each call: a function that
+// returns it would have to say what becomes of the table by what is written through it.
 fn lent(n: usize, entries: usize) -> usize
     ensures is { result ≡ min n entries }
     ensures within { result ≤ entries }
 {
-    if n < entries { n } else { entries }
+    n.min(entries)
 }
 
-// Makes one call.
+// Makes one call. `?` and `Ok`, and no `map`: of a function whose result names the type of the items, `map` gets no proof yet.
 fn ask<C: CoreSet>(run: &mut Run<C>, table: &mut [C::Item], request: Request) -> Answer<C::Item>
     ensures { (chip : Chip C.Item C.State) (c : Count) (before : List C.Item) → Tells true C.CoreSet.rules C.CoreSet.held chip c before run.old table.old → (result ≡ answer chip c (asked (length table.old) request)) × Tells true C.CoreSet.rules C.CoreSet.held chip (after chip.net c (asked (length table.old) request)) before run.new table.new }
 {
     match request {
         Request::Prime { lent: n } => {
             let n = lent(n, table.len());
-            done(run.prime(&mut table[0..n]))
+            run.prime(&mut table[..n])?;
+            Ok(Reply::Done)
         }
-        Request::Hold(v) => done(run.hold(v)),
+        Request::Hold(v) => {
+            run.hold(v)?;
+            Ok(Reply::Done)
+        }
         Request::Step { lent: n } => {
             let n = lent(n, table.len());
-            done(run.step(&mut table[0..n]))
+            run.step(&mut table[..n])?;
+            Ok(Reply::Done)
         }
-        Request::Firings(v) => number(run.firings(v)),
-        Request::Fill(e) => number(fill(run, e)),
+        Request::Firings(v) => Ok(Reply::Number(run.firings(v)?)),
+        Request::Fill(e) => Ok(Reply::Number(u32::from(run.fill(e)?))),
         Request::Front { channel, lent: n } => {
             let n = lent(n, table.len());
-            item(run.front(channel, &table[0..n]))
+            Ok(Reply::Item(run.front(channel, &table[..n])?))
         }
     }
 }
@@ -84,9 +52,8 @@ fn ask<C: CoreSet>(run: &mut Run<C>, table: &mut [C::Item], request: Request) ->
 fn ask_all<C: CoreSet>(run: &mut Run<C>, exchanges: &mut [Exchange<C::Item>], table: &mut [C::Item])
     ensures { (chip : Chip C.Item C.State) (c : Count) (before : List C.Item) → Tells true C.CoreSet.rules C.CoreSet.held chip c before run.old table.old → (exchanges.new ≡ answered_from chip (length table.old) c exchanges.old) × Tells true C.CoreSet.rules C.CoreSet.held chip (counted_from chip.net c (calls_of (length table.old) exchanges.old)) before run.new table.new }
 {
-    for i in 0..exchanges.len() {
-        let request = exchanges[i].request;
-        exchanges[i].answer = ask(run, table, request);
+    for exchange in exchanges.iter_mut() {
+        exchange.answer = Some(ask(run, table, exchange.request));
     }
 }
 

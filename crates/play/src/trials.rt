@@ -1,4 +1,3 @@
-ghost use Rattle.checking.specs.Verdicts.{Passed};
 ghost use Rattle.play.specs.Trials.{Tried};
 
 use crate::exchange::Exchange;
@@ -13,6 +12,7 @@ use sizing::size;
 /// Deepens the queues of a checked netlist for a target A/B with the fewest slots, as `size` does, then plays the calls of a list under
 /// the sizing found. Returns the number of added slots, or why nothing was found; and in both cases the set of cores. On a refusal the
 /// sizing, the list, the table and the set are as they were.
+// Target, caps and allowance come one by one, as `size` takes them: a struct would be made for each call, and taken apart for that one.
 pub fn trial<C: CoreSet>(
     checked: Checked,
     target: (u32, u32),
@@ -23,17 +23,14 @@ pub fn trial<C: CoreSet>(
     exchanges: &mut [Exchange<C::Item>],
     table: &mut [C::Item],
 ) -> (Result<usize, Refusal>, C)
-    requires { Passed checked.netlist.now }
     ensures { Tried C.CoreSet.rules C.CoreSet.held checked.entry.netlist.now target.0 target.1 caps.now allowance sizing.old sizing.new cores result.1 exchanges.old exchanges.new table.old table.new result.0 }
 {
+    // The set goes back on a refusal too, so that `?` will not do.
     let added = match size(checked, target, caps, allowance, sizing) {
         Ok(added) => added,
         Err(why) => return (Err(why), cores),
     };
-    let mut cycle = [0; MODULES];
-    let mut potentials = [0; MODULES];
-    match rate(checked, sizing, &mut cycle, &mut potentials) {
-        Ok(rating) => (Ok(added), play(rating, cores, exchanges, table)),
-        Err(why) => (Err(why), cores),
-    }
+    // What was found can be rated.
+    let rating = rate(checked, sizing, &mut [0; MODULES], &mut [0; MODULES]).unwrap();
+    (Ok(added), play(rating, cores, exchanges, table))
 }

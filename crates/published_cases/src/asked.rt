@@ -2,11 +2,11 @@
 use checking::check;
 use cores::SumSet;
 use forecasting::forecast;
-use netlist::{Netlist, Refusal};
+use netlist::{Netlist, ReadError, Refusal};
 use play::{Exchange, play};
 use rating::rate;
 use sizing::size;
-use std::alloc::{AllocError, Global};
+use std::alloc::Global;
 
 // A request for a sizing.
 #[derive(Clone, Copy)]
@@ -17,17 +17,12 @@ pub struct Aim<'a> {
 }
 
 pub fn checked(netlist: &Netlist) -> Result<(), Refusal> {
-    match check(netlist) {
-        Ok(_) => Ok(()),
-        Err(refusal) => Err(refusal),
-    }
+    check(netlist)?;
+    Ok(())
 }
 
 pub fn sized(netlist: &Netlist, aim: Aim<'_>, table: &mut [u8]) -> Result<usize, Refusal> {
-    match check(netlist) {
-        Ok(checked) => size(checked, aim.target, aim.caps, aim.allowance, table),
-        Err(refusal) => Err(refusal),
-    }
+    size(check(netlist)?, aim.target, aim.caps, aim.allowance, table)
 }
 
 pub fn rated(
@@ -36,20 +31,13 @@ pub fn rated(
     cycle: &mut [u16],
     potentials: &mut [i32],
 ) -> Result<(u32, u32), Refusal> {
-    match check(netlist) {
-        Ok(checked) => match rate(checked, sizing, cycle, potentials) {
-            Ok(rating) => Ok(rating.rate()),
-            Err(refusal) => Err(refusal),
-        },
-        Err(refusal) => Err(refusal),
-    }
+    let rating = rate(check(netlist)?, sizing, cycle, potentials)?;
+    Ok(rating.rate())
 }
 
-pub fn rated_text(heap: Global, netlist: &Netlist, sizing: &[u8]) -> Result<String, AllocError> {
-    match rated(netlist, sizing, &mut [0; 64], &mut [0; 64]) {
-        Ok((p, l)) => format!(in heap; "rate {p}/{l}"),
-        Err(refusal) => format!(in heap; "{refusal}"),
-    }
+pub fn rated_text(heap: Global, netlist: &Netlist, sizing: &[u8]) -> Result<String, ReadError> {
+    let (p, l) = rated(netlist, sizing, &mut [0; 64], &mut [0; 64])?;
+    Ok(format!(in heap; "rate {p}/{l}")?)
 }
 
 pub fn foretold(
@@ -58,10 +46,7 @@ pub fn foretold(
     steps: u32,
     firings: &mut [u32],
 ) -> Result<(), Refusal> {
-    match check(netlist) {
-        Ok(checked) => forecast(checked, sizing, steps, firings),
-        Err(refusal) => Err(refusal),
-    }
+    forecast(check(netlist)?, sizing, steps, firings)
 }
 
 // Plays a list of exchanges over the sum set.
@@ -73,15 +58,7 @@ pub fn played(
 ) -> Result<(), Refusal> {
     let mut cycle = [0; 64];
     let mut potentials = [0; 64];
-    let checked = match check(netlist) {
-        Ok(checked) => checked,
-        Err(refusal) => return Err(refusal),
-    };
-    match rate(checked, sizing, &mut cycle, &mut potentials) {
-        Ok(rating) => {
-            play(rating, SumSet::new(), exchanges, table);
-            Ok(())
-        }
-        Err(refusal) => Err(refusal),
-    }
+    let rating = rate(check(netlist)?, sizing, &mut cycle, &mut potentials)?;
+    play(rating, SumSet::new(), exchanges, table);
+    Ok(())
 }

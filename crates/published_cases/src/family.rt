@@ -1,9 +1,9 @@
 // Netlists of 64 modules and 192 channels.
 use crate::asked::{Aim, foretold, rated_text, sized};
 use crate::nets::netlist_of;
-use drafts::Draft;
-use netlist::{Kind, Netlist};
-use std::alloc::{AllocError, Global};
+use drafts::{Draft, line};
+use netlist::{Kind, Netlist, ReadError};
+use std::alloc::Global;
 
 // A line of blocks, so many behind the first, and so many relay stations on a way from its first block to its last. The channels
 // that are left are the first link of the line once more. The rate 1 takes a slot on the line for each relay station, and one on the
@@ -20,36 +20,23 @@ fn full(heap: Global, blocks: usize, relays: usize) -> anyhow::Result<Draft> {
 }
 
 // Deepens the queues for the rate 1, none above 2.
-fn size_text(heap: Global, netlist: &Netlist, table: &mut [u8]) -> Result<String, AllocError> {
+fn size_text(heap: Global, netlist: &Netlist, table: &mut [u8]) -> Result<String, ReadError> {
     let aim = Aim {
         target: (1, 1),
         caps: &[2; 192],
         allowance: 8,
     };
-    match sized(netlist, aim, table) {
-        Ok(added) => format!(in heap; "added {added}"),
-        Err(refusal) => format!(in heap; "{refusal}"),
-    }
+    let added = sized(netlist, aim, table)?;
+    Ok(format!(in heap; "added {added}")?)
 }
 
-// The firings of the first module and of the last after a thousand free steps.
-fn firings_text(heap: Global, netlist: &Netlist, sizing: &[u8]) -> Result<String, AllocError> {
-    let mut firings = [0; 64];
-    match foretold(netlist, sizing, 1000, &mut firings) {
-        Ok(()) => {
-            let first = firings[0];
-            let last = firings[63];
-            format!(in heap; "firings {first} and {last}")
-        }
-        Err(refusal) => format!(in heap; "{refusal}"),
-    }
-}
-
-// The rate under a sizing, and those firings.
-fn table_text(heap: Global, netlist: &Netlist, sizing: &[u8]) -> Result<String, AllocError> {
+// The rate under a sizing, and the firings of the first module and of the last after a thousand free steps.
+fn table_text(heap: Global, netlist: &Netlist, sizing: &[u8]) -> Result<String, ReadError> {
     let rate = rated_text(heap, netlist, sizing)?;
-    let firings = firings_text(heap, netlist, sizing)?;
-    format!(in heap; "{rate}, {firings}")
+    let mut firings = [0; 64];
+    foretold(netlist, sizing, 1000, &mut firings)?;
+    let [first, .., last] = firings;
+    Ok(format!(in heap; "{rate}, firings {first} and {last}")?)
 }
 
 fn show(rt: &HostRuntime, blocks: usize, relays: usize) -> anyhow::Result<()> {
@@ -58,10 +45,10 @@ fn show(rt: &HostRuntime, blocks: usize, relays: usize) -> anyhow::Result<()> {
     let file = draft.file(heap)?;
     let netlist = netlist_of(heap, file.as_slice())?;
     let mut table = [1; 192];
-    let before = table_text(heap, &netlist, &table)?;
+    let before = line(heap, table_text(heap, &netlist, &table))?;
     println!(rt; "full table, relay stations {relays}: {before}")?;
-    let answer = size_text(heap, &netlist, &mut table)?;
-    let after = table_text(heap, &netlist, &table)?;
+    let answer = line(heap, size_text(heap, &netlist, &mut table))?;
+    let after = line(heap, table_text(heap, &netlist, &table))?;
     println!(rt; "full table, relay stations {relays}, for 1/1: {answer}, then {after}")?;
     Ok(())
 }

@@ -11,8 +11,9 @@ mod refusals;
 
 use crate::asked::{Aim, rated_text, sized};
 use crate::cycle::cycle_text;
-use crate::nets::{SAMPLE, TEN, VIDEO, netlist_of_shape};
-use netlist::Netlist;
+use crate::nets::netlist_of_shape;
+use drafts::{SAMPLE, TEN, VIDEO, line};
+use netlist::{Netlist, ReadError};
 use report::rate_text;
 use std::alloc::{AllocError, Global};
 
@@ -45,14 +46,19 @@ fn cycles(rt: &HostRuntime) -> anyhow::Result<()> {
     show_cycle(rt, &netlist, "C5", &[1, 7, 6, 4, 3, 2, 1])
 }
 
-// The slots of all queues, and the rate.
-fn table_text(heap: Global, netlist: &Netlist, table: &[u8]) -> Result<String, AllocError> {
-    let mut slots: usize = 0;
-    for size in table {
-        slots = slots.wrapping_add(usize::from(*size));
-    }
+// The slots that a sizing adds, those of all queues then, and the rate.
+fn sized_text(
+    heap: Global,
+    netlist: &Netlist,
+    aim: Aim<'_>,
+    table: &mut [u8],
+) -> Result<String, ReadError> {
+    let added = sized(netlist, aim, table)?;
+    let slots = table
+        .iter()
+        .fold(0usize, |sum, size| sum.wrapping_add(usize::from(*size)));
     let rate = rated_text(heap, netlist, table)?;
-    format!(in heap; "{slots} slots in all, {rate}")
+    Ok(format!(in heap; "added {added}, {slots} slots in all, {rate}")?)
 }
 
 // The queues deeper than 1.
@@ -60,24 +66,18 @@ fn queues_text(heap: Global, table: &[u8]) -> Result<String, AllocError> {
     let mut text = String::new(heap);
     for (at, size) in table.iter().enumerate() {
         if *size > 1 {
-            let channel = at + 1;
-            let queue = format!(in heap; ", channel {channel} has {size}")?;
-            text.push_str(queue.as_str())?;
+            write!(text, ", channel {} has {size}", at + 1)?;
         }
     }
     Ok(text)
 }
 
 fn show_sizing(rt: &HostRuntime, label: &str, aim: Aim<'_>) -> anyhow::Result<Vec<u8>> {
-    let netlist = netlist_of_shape(rt.alloc(), VIDEO)?;
-    let mut table = vec![in rt.alloc(); 1; 21]?;
-    match sized(&netlist, aim, table.as_mut_slice()) {
-        Ok(added) => {
-            let text = table_text(rt.alloc(), &netlist, table.as_slice())?;
-            print!(rt; "{label}: added {added}, {text}")?;
-        }
-        Err(refusal) => print!(rt; "{label}: {refusal}")?,
-    }
+    let heap = rt.alloc();
+    let netlist = netlist_of_shape(heap, VIDEO)?;
+    let mut table = vec![in heap; 1; 21]?;
+    let text = line(heap, sized_text(heap, &netlist, aim, table.as_mut_slice()))?;
+    print!(rt; "{label}: {text}")?;
     Ok(table)
 }
 

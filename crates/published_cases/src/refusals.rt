@@ -1,27 +1,26 @@
 // A line for each refusal of each number.
 use crate::asked::{Aim, checked, foretold, played, rated, sized};
-use crate::nets::{APART, LOOSE, RINGED, SAMPLE, VIDEO, netlist_of, netlist_of_shape};
-use anyhow::anyhow;
-use drafts::Shape;
+use crate::nets::{APART, LOOSE, RINGED, netlist_of, netlist_of_shape};
+use anyhow::{Context, anyhow};
+use drafts::{SAMPLE, Shape, VIDEO, line};
 use netlist::{Netlist, ReadError, Refusal, read};
-use play::{Answer, Exchange, Request};
+use play::{Exchange, Request};
 
 fn show(rt: &HostRuntime, label: &str, answer: Result<(), Refusal>) -> anyhow::Result<()> {
-    match answer {
-        Ok(()) => println!(rt; "{label}: accepted")?,
-        Err(refusal) => println!(rt; "{label}: {refusal}")?,
-    }
+    show_read(rt, label, answer.map_err(ReadError::Refused))
+}
+
+fn show_read(rt: &HostRuntime, label: &str, answer: Result<(), ReadError>) -> anyhow::Result<()> {
+    let accepted = String::from_str(rt.alloc(), "accepted")?;
+    let text = line(rt.alloc(), answer.map(|()| accepted))?;
+    println!(rt; "{label}: {text}")?;
     Ok(())
 }
 
 // Reads a file into a table of sizes.
 fn show_file(rt: &HostRuntime, label: &str, file: &[u8], table: &mut [u8]) -> anyhow::Result<()> {
     let mut netlist = Netlist::new(rt.alloc())?;
-    match read(rt.alloc(), file, &mut netlist, table) {
-        Ok(()) => show(rt, label, Ok(())),
-        Err(ReadError::Refused(refusal)) => show(rt, label, Err(refusal)),
-        Err(ReadError::NoMemory) => Err(anyhow!("no memory")),
-    }
+    show_read(rt, label, read(rt.alloc(), file, &mut netlist, table))
 }
 
 fn of_files(rt: &HostRuntime) -> anyhow::Result<()> {
@@ -33,8 +32,7 @@ fn of_files(rt: &HostRuntime) -> anyhow::Result<()> {
     let mut numbered = SAMPLE;
     numbered[14] = 4;
     show_file(rt, "F with byte 14 set to 4", &numbered, &mut table)?;
-    let mut longer = Vec::new(rt.alloc());
-    longer.extend_from_slice(&SAMPLE)?;
+    let mut longer = SAMPLE.to_vec(rt.alloc())?;
     longer.push(1)?;
     show_file(rt, "F with a byte more", longer.as_slice(), &mut table)
 }
@@ -65,10 +63,7 @@ fn show_size(
         caps,
         allowance,
     };
-    match sized(&netlist, aim, &mut [1; 21]) {
-        Ok(_) => show(rt, label, Ok(())),
-        Err(refusal) => show(rt, label, Err(refusal)),
-    }
+    show(rt, label, sized(&netlist, aim, &mut [1; 21]).map(|_| ()))
 }
 
 fn of_sizes(rt: &HostRuntime) -> anyhow::Result<()> {
@@ -85,13 +80,10 @@ fn of_sizes(rt: &HostRuntime) -> anyhow::Result<()> {
 // Makes requests of a run of the sample, with a table of six items, and shows the answer to the last.
 fn show_run(rt: &HostRuntime, label: &str, requests: &[Request]) -> anyhow::Result<()> {
     let netlist = netlist_of(rt.alloc(), &SAMPLE)?;
-    let mut exchanges = Vec::new(rt.alloc());
-    for request in requests {
-        exchanges.push(Exchange {
-            request: *request,
-            answer: Answer::Open,
-        })?;
-    }
+    let mut exchanges: Vec<Exchange<u32>> = requests
+        .iter()
+        .map(|request| Exchange::new(*request))
+        .collect(rt.alloc())?;
     let mut table: [u32; 6] = [0; 6];
     show_answer(
         rt,
@@ -107,15 +99,11 @@ fn show_answer(
     made: Result<(), Refusal>,
     exchanges: &[Exchange<u32>],
 ) -> anyhow::Result<()> {
-    if made.is_err() {
-        return Err(anyhow!("a run that is not made"));
-    }
-    match exchanges.last() {
-        Some(exchange) => match exchange.answer {
-            Answer::Refused(refusal) => show(rt, label, Err(refusal)),
-            _ => show(rt, label, Ok(())),
-        },
-        None => Err(anyhow!("no request")),
+    made.map_err(|_| anyhow!("a run that is not made"))?;
+    let exchange = exchanges.last().context("no request")?;
+    match exchange.answer {
+        Some(Err(refusal)) => show(rt, label, Err(refusal)),
+        _ => show(rt, label, Ok(())),
     }
 }
 
@@ -181,11 +169,8 @@ fn beyond_limit(rt: &HostRuntime) -> anyhow::Result<()> {
 fn lists_too_short(rt: &HostRuntime) -> anyhow::Result<()> {
     show_file(rt, "F into 2 sizes", &SAMPLE, &mut [0; 2])?;
     let netlist = netlist_of_shape(rt.alloc(), VIDEO)?;
-    let answer = match rated(&netlist, &[1; 21], &mut [0; 16], &mut [0; 17]) {
-        Ok(_) => Ok(()),
-        Err(refusal) => Err(refusal),
-    };
-    show(rt, "video decoder, cycle of 16", answer)?;
+    let answer = rated(&netlist, &[1; 21], &mut [0; 16], &mut [0; 17]);
+    show(rt, "video decoder, cycle of 16", answer.map(|_| ()))?;
     show(
         rt,
         "video decoder, firings of 16",

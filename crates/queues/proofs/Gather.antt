@@ -1,10 +1,10 @@
 -- The loop in which a block absorbs its items. Assumes nothing.
-use Rattle.std.proofs.Common.{◌≡◌, ℕ, ◌+◌, ◌<◌, ◌≤◌, Bool, true, cond, ◌≢◌, List, length, sym, refl, ap, ◌∙◌, ap₂, add-one, arith}
+use Rattle.std.proofs.Common.{◌≡◌, ℕ, ◌+◌, ◌<◌, ◌≤◌, Bool, true, cond, ◌≢◌, List, sym, refl, ap, ◌∙◌, ap₂, add-one, arith}
 use Rattle.std.proofs.lemmas.Bool.{eq-eqb, ne_eqb}
 use Rattle.cores.specs.Rules.{Rules}
 use Rattle.queues.specs.declared.channels.Channels.{Channels}
 use Rattle.queues.specs.Strict.{intake}
-use Rattle.queues.specs.Flows.{Laid, Kept, Flows, Feeds, bump, more, first, into, queue_at}
+use Rattle.queues.specs.Flows.{Kept, Flows, Feeds, bump, more, first, into, queue_at}
 use Rattle.queues.proofs.Replacing.{kept_refl, kept_trans}
 use Rattle.queues.proofs.Turns.{flows_ext, more_none, more_all, more_here, more_on, more_off}
 
@@ -23,7 +23,6 @@ module _ {Item State : Type 0} (absorb : ℕ → State → Item → State) (sink
 
 -- after the turns at the first n channels
 pub record Gathered {Item State : Type 0} (w₀ : Channels) (t : List Item) (r₀ : Rules Item State) (h₀ : ℕ → State) (v n : ℕ) (w : Channels) (r : Rules Item State) (h : ℕ → State) : Type 0 where
-  pub laid : Laid w (length t)
   pub kept : Kept w w₀
   pub rules : r ≡ r₀
   pub others : (u : ℕ) → 1 ≤ u → u ≢ v → h u ≡ h₀ u
@@ -31,9 +30,8 @@ pub record Gathered {Item State : Type 0} (w₀ : Channels) (t : List Item) (r�
       → Flows ok before w t (more took (first n (into w₀ v))) put stream × (ok ≡ true → h v ≡ intake r₀.absorb (λ e. (queue_at w₀ e).sink) (λ e. stream e (took e)) v (h₀ v) n)
 
 module _ {Item State : Type 0} (w₀ : Channels) (t : List Item) (r₀ : Rules Item State) (h₀ : ℕ → State) (v : ℕ) where
-  pub gathered_none : Laid w₀ (length t) → Gathered w₀ t r₀ h₀ v 0 w₀ r₀ h₀
-  gathered_none laid = record {
-    laid = laid;
+  pub gathered_none : Gathered w₀ t r₀ h₀ v 0 w₀ r₀ h₀
+  gathered_none = record {
     kept = kept_refl w₀;
     rules = refl;
     others = λ u low ne. refl;
@@ -45,7 +43,6 @@ module _ {Item State : Type 0} (w₀ : Channels) (t : List Item) (r₀ : Rules I
 
   pub gathered_off : (n : ℕ) (w : Channels) (r : Rules Item State) (h : ℕ → State) → Gathered w₀ t r₀ h₀ v n w r h → ((queue_at w n).sink ≡ v → ⊥) → Gathered w₀ t r₀ h₀ v (n + 1) w r h
   gathered_off n w r h s ne = record {
-    laid = s.laid;
     kept = s.kept;
     rules = s.rules;
     others = s.others;
@@ -59,12 +56,11 @@ module _ {Item State : Type 0} (w₀ : Channels) (t : List Item) (r₀ : Rules I
 
   -- the item of channel n is taken and absorbed
   pub gathered_on : (n : ℕ) (w w' : Channels) (r r' : Rules Item State) (h h' : ℕ → State) (item : Item) → Gathered w₀ t r₀ h₀ v n w r h → n < w₀.count → (queue_at w n).sink ≡ v
-      → Laid w' (length t) → Kept w' w → r' ≡ r
+      → Kept w' w → r' ≡ r
       → ((u : ℕ) → 1 ≤ u → u ≢ v → h' u ≡ h u) → h' v ≡ r.absorb v (h v) item
       → ((ok : Bool) (before : List Item) (took put : ℕ → ℕ) (stream : ℕ → ℕ → Item) → Flows ok before w t took put stream → took n < put n → (ok ≡ true → item ≡ stream n (took n)) × Flows ok before w' t (bump took n) put stream)
       → Gathered w₀ t r₀ h₀ v (n + 1) w' r' h'
-  gathered_on n w w' r r' h h' item s lt is laid kept rules others own flow = record {
-    laid = laid;
+  gathered_on n w w' r r' h h' item s lt is kept rules others own flow = record {
     kept = kept_trans w' w w₀ kept s.kept;
     rules = rules ∙ s.rules;
     others = λ u low ne. others u low ne ∙ s.others u low ne;
@@ -90,11 +86,10 @@ module _ {Item State : Type 0} (w₀ : Channels) (t : List Item) (r₀ : Rules I
 
   -- a channel that leads to v is never found empty where it has an item
   pub gathered_lost : (n : ℕ) (w w' : Channels) (r : Rules Item State) (h : ℕ → State) → Gathered w₀ t r₀ h₀ v n w r h → n < w₀.count → (queue_at w n).sink ≡ v
-      → Laid w' (length t) → Kept w' w
+      → Kept w' w
       → ((ok : Bool) (before : List Item) (took put : ℕ → ℕ) (stream : ℕ → ℕ → Item) → Flows ok before w t took put stream → took n < put n → ⊥)
       → Gathered w₀ t r₀ h₀ v (n + 1) w' r h
-  gathered_lost n w w' r h s lt is laid kept never = record {
-    laid = laid;
+  gathered_lost n w w' r h s lt is kept never = record {
     kept = kept_trans w' w w₀ kept s.kept;
     rules = s.rules;
     others = s.others;

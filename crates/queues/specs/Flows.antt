@@ -3,13 +3,10 @@ use Rattle.std.specs.Prelude.{◌≡◌, ℕ, ◌+◌, ◌-◌, ◌<◌, ◌≤�
 use Rattle.queues.specs.declared.queue.Queue.{Queue}
 use Rattle.queues.specs.declared.channels.Channels.{Channels}
 use Rattle.queues.specs.Holds.{Sound, Alike, Holds}
-use Rattle.counts.specs.Steps.{Ready}
-
-abbrev pub blank : Queue
-blank = record { source = 0; sink = 0; size = 0; base = 0; fill = 0; oldest = 0 }
+use Rattle.queues.specs.Parts.{ReadyIn, queue_in}
 
 abbrev pub queue_at : Channels → ℕ → Queue
-queue_at w e = slice_index_or w.queues e blank
+queue_at w e = queue_in w.queues e
 
 -- The parts of a table of `len` entries lie one behind the other.
 pub record Laid (w : Channels) (len : ℕ) : Type 0 where
@@ -20,6 +17,7 @@ pub record Laid (w : Channels) (len : ℕ) : Type 0 where
 -- The netlist is as it was.
 pub record Kept (w v : Channels) : Type 0 where
   pub count : w.count ≡ v.count
+  pub entries : w.entries ≡ v.entries
   pub each : (e : ℕ) → Alike (queue_at w e) (queue_at v e)
 
 -- Every channel holds what was put in, up to what was taken, of its stream, and the table is `before` but for what was put.
@@ -62,16 +60,9 @@ pub record Sole (w : Channels) (v d : ℕ) : Type 0 where
 pub record Feeds (w : Channels) (v : ℕ) (took put : ℕ → ℕ) : Type 0 where
   pub each : (e : ℕ) → e < w.count → (queue_at w e).sink ≡ v → took e < put e
 
--- `Laid` in the parts of which a ghost field can be made: products and functions of `≤`
-abbrev pub Sounds : Channels → ℕ → Type 0
-Sounds w len = (e : ℕ) → e < w.count → ((queue_at w e).size ≤ 16) × ((queue_at w e).fill ≤ (queue_at w e).size + 1) × ((queue_at w e).oldest ≤ (queue_at w e).size) × ((queue_at w e).base + (queue_at w e).size < len)
-
-abbrev pub Apart : Channels → Type 0
-Apart w = (d e : ℕ) → d < e → e < w.count → (queue_at w d).base + (queue_at w d).size < (queue_at w e).base
-
 -- v is ready by the queues' fills
 abbrev pub ReadyAt : Channels → ℕ → ℕ → Type 0
-ReadyAt w v n = Ready (λ e. (queue_at w e).source) (λ e. (queue_at w e).sink) (λ e. (queue_at w e).size) (λ e. (queue_at w e).fill) v n
+ReadyAt w v n = ReadyIn w.queues v n
 
 -- What each channel from a block gets at the start: the block's reset item.
 pub record Starts {Item : Type 0} (ok : Bool) (w : Channels) (blocks : List Bool) (reset : ℕ → Item) (took put : ℕ → ℕ) (stream : ℕ → ℕ → Item) : Type 0 where

@@ -5,6 +5,6 @@ mod channels;
 mod fires;
 mod queue;
 
-pub use channels::Channels;
+pub use channels::{Channels, ready};
 pub use fires::{fire, start};
 pub use queue::Queue;

@@ -2,7 +2,8 @@ ghost use Rattle.std.specs.Prelude.{◌≡◌, ℕ, ◌+◌, ◌-◌, ◌%◌, �
 ghost use Rattle.queues.specs.Holds.{Sound, Alike, Holds, Gives};
 
 /// A channel and its queue. Its items lie in a part of the item table that starts at `base` and has one entry more than the queue's size;
-/// they are put there in turn, and `oldest` counts from `base`.
+/// they are put there in turn, and `oldest` counts from `base`. That the part lies within the table is a fact of both, so it stands in the
+/// contracts here; `Channels` keeps it of all its queues.
 #[derive(Clone, Copy)]
 pub struct Queue {
     pub source: u8,
@@ -32,9 +33,7 @@ impl Queue {
         ensures alike { Alike self.new self.old }
         ensures flow { (ok : Bool) (before : List T) (took put : ℕ) (stream : ℕ → T) → Holds ok before self.old table.now took put stream → took < put → Gives ok result (stream took) × Holds ok before self.new table.now (took + 1) put stream }
     {
-        let Some(item) = self.front(table) else {
-            return None;
-        };
+        let item = self.front(table)?;
         self.oldest = (self.oldest + 1) % (self.size + 1);
         self.fill -= 1;
         Some(item)

@@ -1,5 +1,5 @@
 -- What an accepted rating holds.
-use Rattle.std.proofs.Common.{◌≡◌, ℕ, ◌≤◌, false, ◌||◌, ltb, List, length, get_or, ℤ, pos, None, sym, refl, subst, arith}
+use Rattle.std.proofs.Common.{◌≡◌, ℕ, ◌≤◌, false, ◌||◌, ltb, List, length, get_or, ℤ, pos, None, sym, refl, subst₂, arith}
 use Rattle.std.proofs.lemmas.Bool.Decides.{nat_tests}
 use Rattle.checking.specs.Verdicts.{Passed}
 use Rattle.netlist.specs.declared.netlist.Netlist.{Netlist}
@@ -17,31 +17,33 @@ no_fault : (n : Netlist) (sizing : List ℕ) (room space : ℕ) → sizing_fault
 no_fault n sizing room space s a b = rw (s, enough (modules n) room space a b) refl
 
 module _ (r : Rating) (cycle cycle' : List ℕ) (potentials potentials' : List ℤ) where
-  abbrev Of : Netlist → Type 0
-  Of n = Accepted n r.sizing.now cycle cycle' potentials potentials' r
+  abbrev Of : Netlist → List ℕ → Type 0
+  Of n sizing = Accepted n sizing cycle cycle' potentials potentials' r
 
-  accepted_own : Passed r.netlist.now → sizing_fault (channels r.netlist.now) r.sizing.now ≡ None
-      → modules r.netlist.now ≤ length cycle → modules r.netlist.now ≤ length potentials
-      → Rates (modules r.netlist.now) (graph_of r.netlist.now r.sizing.now) r.rate.0 r.rate.1 r.length cycle cycle' potentials potentials'
-      → Of r.netlist.now
-  accepted_own passed sized space room h =
+  -- what was found of a netlist and its sizing
+  pub record Made (n : Netlist) (sizing : List ℕ) : Type 0 where
+    pub passed : Passed n
+    pub sized : sizing_fault (channels n) sizing ≡ None
+    pub space : modules n ≤ length cycle
+    pub room : modules n ≤ length potentials
+    pub rates : Rates (modules n) (graph_of n sizing) r.rate.0 r.rate.1 r.length cycle cycle' potentials potentials'
+
+  accepted_own : Made r.netlist.now r.sizing.now → Of r.netlist.now r.sizing.now
+  accepted_own m =
       record {
-        no_fault = no_fault r.netlist.now r.sizing.now (length cycle) (length potentials) sized space room;
+        no_fault = no_fault r.netlist.now r.sizing.now (length cycle) (length potentials) m.sized m.space m.room;
         netlist = refl;
         sizes = refl;
         holds = record {
-          passed = passed;
-          sized = sized;
-          is_rate = h.is_rate;
-          short = h.short;
-          potential = λ v l. (get_or potentials' v (pos 0), h.potential v l, (h.range v l).0, (h.range v l).1);
+          passed = m.passed;
+          sized = m.sized;
+          is_rate = m.rates.is_rate;
+          short = m.rates.short;
+          potential = λ v l. (get_or potentials' v (pos 0), m.rates.potential v l, (m.rates.range v l).0, (m.rates.range v l).1);
         };
-        lists = h;
+        lists = m.rates;
       }
 
-  -- the same of the netlist that the rating was made of
-  pub accepted : (n : Netlist) → r.netlist.now ≡ n → Passed n → sizing_fault (channels r.netlist.now) r.sizing.now ≡ None
-      → modules r.netlist.now ≤ length cycle → modules r.netlist.now ≤ length potentials
-      → Rates (modules r.netlist.now) (graph_of r.netlist.now r.sizing.now) r.rate.0 r.rate.1 r.length cycle cycle' potentials potentials'
-      → Of n
-  accepted n e passed sized space room h = subst Of e (accepted_own (subst Passed (sym e) passed) sized space room h)
+  -- the same of the netlist and the sizing that the rating was made of
+  pub accepted : (n : Netlist) (sizing : List ℕ) → r.netlist.now ≡ n → r.sizing.now ≡ sizing → Made n sizing → Of n sizing
+  accepted n sizing e f m = subst₂ Of e f (accepted_own (subst₂ Made (sym e) (sym f) m))

@@ -1,6 +1,5 @@
 pub mod Places
 pub mod Sizes
-pub mod Numbering
 pub mod Fitting
 pub mod Measuring
 pub mod Accepting

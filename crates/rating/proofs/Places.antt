@@ -1,9 +1,8 @@
 -- The places of one channel more, and what holds of all places.
-use Rattle.std.proofs.Common.{◌≡◌, ℕ, suc, ◌+◌, ◌-◌, ◌*◌, ◌<◌, ◌≤◌, ◌≢◌, List, [], ◌∷◌, ◌++◌, length, get_or, take, set, vec_items, sym, refl, ap, ◌∙◌, append_assoc, arith, length-set}
-use Rattle.std.proofs.lemmas.List.{get_or_default, get_or-map, get_or-set_other, length-take-le, take_all, take_more, take_more_set}
+use Rattle.std.proofs.Common.{◌≡◌, ℕ, suc, ◌+◌, ◌-◌, ◌*◌, ◌<◌, ◌≤◌, List, [], ◌∷◌, ◌++◌, length, get_or, take, set, vec_items, sym, refl, ap, ◌∙◌, append_assoc, arith, length-set}
+use Rattle.std.proofs.lemmas.List.{get_or_default, get_or-map, length-take-le, take_more, take_more_set}
 use Rattle.std.specs.List.{AllByRecursion}
 use Rattle.marked.specs.declared.place.Place.{Place}
-use Rattle.marked.specs.Graphs.{at}
 use Rattle.netlist.specs.declared.channel.Channel.{Channel}
 use Rattle.netlist.specs.declared.kind.Kind.{Kind}
 use Rattle.netlist.specs.declared.netlist.Module.{Module}
@@ -48,14 +47,7 @@ length_extended kind [] qs l = refl
 length_extended kind (c ∷ cs) [] l = absurd (omega arith)
 length_extended kind (c ∷ cs) (q ∷ qs) l = omega (arith, length_extended kind cs qs (omega arith))
 
--- all places, once those of every channel are written
-pub extended_end : (kind : ℕ → Kind) (cs : List Channel) (qs : List ℕ) (i e : ℕ) (places : List Place) → length qs ≡ length cs → length cs ≤ i → i ≤ length cs → e ≡ length cs
-    → take (2 * i) places ≡ extended kind (take i cs) (take i qs) → take (2 * e) places ≡ extended kind cs qs
-extended_end kind cs qs i e places same above below count h =
-    let n : 2 * e ≡ 2 * i = omega arith in
-    rw (n, h, take_all i cs above, take_all i qs (omega arith)) refl
-
--- the same, over the lists that a netlist lends
+-- the places of one channel more, over the lists that a netlist lends
 pub extend_more : (n : Netlist) (cs : List Channel) (qs : List ℕ) (i : ℕ) (places : List Place) (there back : Place)
     → cs ≡ channels_of n → length qs ≡ length (channels_of n) → i < length cs → 2 * length qs ≤ length places
     → there ≡ forward (kind_of n) (get_or cs i (record { source = 0; sink = 0 }))
@@ -71,11 +63,3 @@ extend_more n cs qs i places there back e same l room f b h =
 -- the kind of a module that was read from the list that a netlist lends
 pub kind_read : (n : Netlist) (ms : List Module) (v : ℕ) (d : Module) → ms ≡ vec_items n.modules → v - 1 < length ms → (get_or ms (v - 1) d).kind ≡ kind_of n v
 kind_read n ms v d e l = sym (ap (λ (m : Entry). m.kind) (get_or-map entry_of (vec_items n.modules) (v - 1) d _ (omega (arith, ap length e))) ∙ rw e refl)
-
--- two places more leave what is behind them
-pub two_more : (now before : List Place) (i : ℕ) (there back : Place) → ((p : ℕ) → 2 * i ≤ p → at now p ≡ at before p)
-    → (p : ℕ) → 2 * (i + 1) ≤ p → at (set (set now (2 * i) there) (2 * i + 1) back) p ≡ at before p
-two_more now before i there back kept p l =
-    let past_back : p ≢ 2 * i + 1 = omega arith in
-    let past_there : p ≢ 2 * i = omega arith in
-    get_or-set_other (set now (2 * i) there) (2 * i + 1) p back _ past_back ∙ get_or-set_other now (2 * i) p there _ past_there ∙ kept p (omega arith)

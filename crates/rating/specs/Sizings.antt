@@ -1,6 +1,6 @@
 -- When a sizing is refused. Assumes nothing.
-use Rattle.std.specs.Prelude.{◌≡◌, ℕ, suc, cond, List, [], ◌∷◌, length, Some, None, Ok, Err, Option, Result, ◌==◌}
-use Rattle.std.specs.Int.{is_in_range}
+use Rattle.std.specs.Prelude.{◌≡◌, ℕ, suc, ◌+◌, ◌<◌, ◌≢◌, ◌⊎◌, MatchResult, slice_index, cond, List, [], ◌∷◌, length, Some, None, Ok, Err, Option, Result, ◌==◌}
+use Rattle.std.specs.Int.{IsInRange, IsOutOfRange, is_in_range}
 use Rattle.netlist.specs.declared.refusal.Cause.TheVariants.{SizesOutOfRange}
 use Rattle.netlist.specs.declared.refusal.Refusal.{Refusal}
 
@@ -21,3 +21,11 @@ sizing_fault e sizing = cond (length sizing == e) (bad_size 1 sizing) (Some (siz
 abbrev pub Tested : Option Refusal → Result (Unit {0}) Refusal → Type 0
 Tested fault (Ok done) = fault ≡ None
 Tested fault (Err x) = fault ≡ Some x
+
+-- the answer of a test of a byte for each of e channels, from a least of the channel's own to 16: the length is judged first, then
+-- the first byte out of its range. (A record, so that a proof need not repeat what says the least.)
+pub record TestedBytes (e : ℕ) (bs : List ℕ) (Least : ℕ → ℕ → Type 0) (r : Result (Unit {0}) Refusal) : Type 0 where
+  pub tested : MatchResult r
+      (λ done. (length bs ≡ e) × ((k : ℕ) → k < length bs → (q : ℕ) × Least k q × IsInRange q 16 (slice_index bs k)))
+      (λ x. ((length bs ≢ e) × (x ≡ sizes_refused 0))
+      ⊎ ((length bs ≡ e) × ((k : ℕ) × (k < length bs) × (x ≡ sizes_refused (k + 1)) × ((q : ℕ) × Least k q × IsOutOfRange q 16 (slice_index bs k)) × ((i : ℕ) → i < k → (q : ℕ) × Least i q × IsInRange q 16 (slice_index bs i)))))

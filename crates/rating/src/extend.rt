@@ -27,7 +27,7 @@ fn places_of(netlist: &Netlist, channel: Channel, size: u8) -> (Place, Place)
 {
     let source = channel.source as usize - 1;
     let sink = channel.sink as usize - 1;
-    let items = items_at_reset(netlist.modules()[source].kind);
+    let items = items_at_reset(netlist.kind(channel.source as usize));
     let there = Place {
         from: source,
         to: sink,
@@ -51,6 +51,7 @@ pub fn extend(netlist: &Netlist, sizing: &[u8], places: &mut [Place]) -> usize
     ensures kept { (p : ℕ) → result ≤ p → at places.new p ≡ at places.old p }
 {
     let channels = netlist.channels();
+    // By `chunks_exact_mut(2)` it was tried: its iterator then holds the list, so no invariant of the loop can name what was put there.
     for (at, channel) in channels.iter().enumerate() {
         let (there, back) = places_of(netlist, *channel, sizing[at]);
         places[2 * at] = there;

@@ -7,7 +7,9 @@ pub(crate) fn put_numbers(walk: &[u16], numbers: &mut [u16])
     ensures front { take (length walk.now) numbers.new ≡ map suc walk.now }
     ensures behind { (i : ℕ) → length walk.now ≤ i → slice_index numbers.new i ≡ slice_index numbers.old i }
 {
-    for (at, place) in walk.iter().enumerate() {
-        numbers[at] = *place + 1;
+    let front = &mut numbers[0..walk.len()];
+    front.copy_from_slice(walk);
+    for number in front.iter_mut() {
+        *number += 1;
     }
 }

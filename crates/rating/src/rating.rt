@@ -4,6 +4,8 @@ use netlist::Netlist;
 
 /// A netlist that was rated under a sizing, both lent, so that neither changes while the rating is in use. `rate` alone makes one,
 /// and promises what it holds.
+// Four fields, and no `SizedNetlist` and `Rated` in one: that would be no plainer, since the contracts of this crate and of the crates
+// above name netlist, sizing and rate each, and each would stand a field deeper. A rate is a pair, as rates are compared by cross products.
 #[derive(Clone, Copy)]
 pub struct Rating<'n, 's> {
     pub(crate) netlist: &'n Netlist,

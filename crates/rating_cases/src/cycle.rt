@@ -33,11 +33,7 @@ fn place_of(rating: &Rating<'_, '_>, number: u16) -> Option<Place> {
         to: channel.source,
         tokens: u64::from(*size) + 1 - items,
     };
-    if index % 2 == 0 {
-        Some(there)
-    } else {
-        Some(back)
-    }
+    Some(if index % 2 == 0 { there } else { back })
 }
 
 // A walk along places that has passed some modules, none twice and none below the first.
@@ -60,37 +56,34 @@ impl Walk {
     }
 
     // Goes on along a place, where it may.
-    fn step(&mut self, place: Place) -> bool {
+    fn step(&mut self, place: Place) -> Option<()> {
         let from = place.from;
         if from != self.at || from < self.first || self.passed[usize::from(from)] {
-            return false;
+            return None;
         }
         self.passed[usize::from(from)] = true;
         self.at = place.to;
         self.tokens = self.tokens.wrapping_add(place.tokens);
-        true
+        Some(())
     }
+}
+
+// The walk along the places of these numbers, if there is one from the start of the first.
+fn walk_along(rating: &Rating<'_, '_>, numbers: &[u16]) -> Option<Walk> {
+    let start = place_of(rating, *numbers.first()?)?;
+    let mut walk = Walk::new(start.from);
+    for number in numbers {
+        walk.step(place_of(rating, *number)?)?;
+    }
+    Some(walk)
 }
 
 // Whether the places of these numbers close, pass no module twice, start at the lowest and have the rate as their mean.
 pub fn holds(rating: &Rating<'_, '_>, numbers: &[u16]) -> bool {
-    let Some(first) = numbers.first() else {
-        return false;
-    };
-    let Some(start) = place_of(rating, *first) else {
-        return false;
-    };
-    let mut walk = Walk::new(start.from);
-    for number in numbers {
-        let Some(place) = place_of(rating, *number) else {
-            return false;
-        };
-        if !walk.step(place) {
-            return false;
-        }
-    }
     let (p, l) = rating.rate();
     let places = numbers.len() as u64;
-    walk.at == walk.first
-        && walk.tokens.wrapping_mul(u64::from(l)) == places.wrapping_mul(u64::from(p))
+    walk_along(rating, numbers).is_some_and(|walk| {
+        walk.at == walk.first
+            && walk.tokens.wrapping_mul(u64::from(l)) == places.wrapping_mul(u64::from(p))
+    })
 }

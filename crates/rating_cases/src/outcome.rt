@@ -1,6 +1,7 @@
 use crate::cycle::holds;
 use checking::check;
-use netlist::{Netlist, ReadError, Refusal, read};
+use drafts::{netlist_of, spaced};
+use netlist::{ReadError, Refusal};
 use rating::{Rating, rate};
 use std::alloc::{AllocError, Global};
 
@@ -16,101 +17,83 @@ pub struct Rooms {
     pub potentials: usize,
 }
 
+// The two lists of a rating.
+#[derive(Drop)]
+struct Lists {
+    cycle: Vec<u16>,
+    potentials: Vec<i32>,
+}
+
 // What becomes of a file that is read, checked and rated under a sizing.
 pub fn outcome(
     heap: Global,
     file: &[u8],
     sizing: &[u8],
     rooms: Rooms,
-) -> Result<String, AllocError> {
-    let mut netlist = Netlist::new(heap)?;
-    match read(heap, file, &mut netlist, &mut [0; 192]) {
-        Ok(()) => {}
-        Err(ReadError::Refused(refusal)) => return format!(in heap; "{refusal}, not read"),
-        Err(ReadError::NoMemory) => return Err(AllocError),
-    }
-    let mut cycle = vec![in heap; NO_PLACE; rooms.cycle]?;
-    let mut potentials = vec![in heap; NO_POTENTIAL; rooms.potentials]?;
-    rated(
-        heap,
-        &netlist,
+) -> Result<String, ReadError> {
+    let netlist = netlist_of(heap, file)?;
+    let checked = check(&netlist)?;
+    let mut lists = Lists::new(heap, rooms)?;
+    let rated = rate(
+        checked,
         sizing,
-        cycle.as_mut_slice(),
-        potentials.as_mut_slice(),
-    )
+        lists.cycle.as_mut_slice(),
+        lists.potentials.as_mut_slice(),
+    );
+    let text = match rated {
+        Ok(rating) => lists.rating_text(heap, &rating),
+        Err(refusal) => lists.refusal_text(heap, refusal),
+    };
+    Ok(text?)
 }
 
-fn rated(
-    heap: Global,
-    netlist: &Netlist,
-    sizing: &[u8],
-    cycle: &mut [u16],
-    potentials: &mut [i32],
-) -> Result<String, AllocError> {
-    match check(netlist) {
-        Ok(checked) => match rate(checked, sizing, cycle, potentials) {
-            Ok(rating) => rating_text(heap, &rating, cycle, potentials),
-            Err(refusal) => refusal_text(heap, refusal, cycle, potentials),
-        },
-        Err(refusal) => format!(in heap; "{refusal}, not passed"),
+impl Lists {
+    fn new(heap: Global, rooms: Rooms) -> Result<Lists, AllocError> {
+        Ok(Lists {
+            cycle: vec![in heap; NO_PLACE; rooms.cycle]?,
+            potentials: vec![in heap; NO_POTENTIAL; rooms.potentials]?,
+        })
     }
-}
 
-fn rating_text(
-    heap: Global,
-    rating: &Rating<'_, '_>,
-    cycle: &[u16],
-    potentials: &[i32],
-) -> Result<String, AllocError> {
-    let (p, l) = rating.rate();
-    let shown = cycle_text(rating, cycle);
-    let modules = rating.netlist().modules().len();
-    let values = potentials_text(heap, potentials, modules)?;
-    let kept = kept_text(cycle, rating.length(), potentials, modules);
-    format!(in heap; "rate {p}/{l}, {shown}, potentials{values}, rest {kept}")
-}
-
-fn refusal_text(
-    heap: Global,
-    refusal: Refusal,
-    cycle: &[u16],
-    potentials: &[i32],
-) -> Result<String, AllocError> {
-    let kept = kept_text(cycle, 0, potentials, 0);
-    format!(in heap; "{refusal}, lists {kept}")
-}
-
-fn cycle_text(rating: &Rating<'_, '_>, cycle: &[u16]) -> &'static str {
-    match cycle.get(0..rating.length()) {
-        Some([]) => "no cycle",
-        Some(numbers) if holds(rating, numbers) => "cycle holds",
-        _ => "cycle fails",
+    fn rating_text(&self, heap: Global, rating: &Rating<'_, '_>) -> Result<String, AllocError> {
+        let (p, l) = rating.rate();
+        let modules = rating.netlist().modules().len();
+        let shown = self.cycle_text(rating);
+        let potentials = self.potentials.as_slice();
+        let values = spaced(heap, &potentials[0..modules.min(potentials.len())])?;
+        let kept = self.kept_text(rating.length(), modules);
+        format!(in heap; "rate {p}/{l}, {shown}, potentials{values}, rest {kept}")
     }
-}
 
-fn potentials_text(heap: Global, potentials: &[i32], modules: usize) -> Result<String, AllocError> {
-    let mut text = String::new(heap);
-    for potential in potentials.iter().take(modules) {
-        let value = format!(in heap; " {potential}")?;
-        text.push_str(value.as_str())?;
+    fn refusal_text(&self, heap: Global, refusal: Refusal) -> Result<String, AllocError> {
+        let kept = self.kept_text(0, 0);
+        format!(in heap; "{refusal}, lists {kept}")
     }
-    Ok(text)
-}
 
-// Whether the lists still hold what they held, from these entries on.
-fn kept_text(cycle: &[u16], places: usize, potentials: &[i32], modules: usize) -> &'static str {
-    if all_are(cycle, places, NO_PLACE) && all_are(potentials, modules, NO_POTENTIAL) {
-        "kept"
-    } else {
-        "lost"
-    }
-}
-
-fn all_are<T: Eq + Copy>(list: &[T], from: usize, mark: T) -> bool {
-    for item in list.iter().skip(from) {
-        if *item != mark {
-            return false;
+    fn cycle_text(&self, rating: &Rating<'_, '_>) -> &'static str {
+        match self.cycle.get(0..rating.length()) {
+            Some([]) => "no cycle",
+            Some(numbers) if holds(rating, numbers) => "cycle holds",
+            _ => "cycle fails",
         }
     }
-    true
+
+    // Whether the lists still hold what they held, behind so many places and modules.
+    fn kept_text(&self, places: usize, modules: usize) -> &'static str {
+        let places_kept = self
+            .cycle
+            .iter()
+            .skip(places)
+            .all(|number| *number == NO_PLACE);
+        let potentials_kept = self
+            .potentials
+            .iter()
+            .skip(modules)
+            .all(|value| *value == NO_POTENTIAL);
+        if places_kept && potentials_kept {
+            "kept"
+        } else {
+            "lost"
+        }
+    }
 }

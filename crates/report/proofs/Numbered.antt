@@ -1,9 +1,9 @@
 -- One line more.
-use Rattle.std.proofs.Common.{◌≡◌, ℕ, suc, ◌+◌, ◌<◌, List, [], ◌∷◌, ◌++◌, map, length, get_or, take, ℤ, codes, refl, append_assoc, append-nil, add-zero, arith}
+use Rattle.std.proofs.Common.{◌≡◌, ℕ, suc, ◌+◌, ◌<◌, List, [], ◌∷◌, ◌++◌, map, length, get_or, take, ℤ, codes, decimal, refl, append_assoc, append-nil, add-zero, arith}
 use Rattle.std.proofs.lemmas.List.{length-take, take_more}
 use Rattle.netlist.specs.declared.netlist.Module.{Module}
 use Rattle.netlist.specs.Holds.{entry_of}
-use Rattle.report.specs.Lines.{module_line, numbered, rate_line, rating_lines, spaced}
+use Rattle.report.specs.Lines.{module_line, numbered, rating_lines, spaced}
 
 pub numbered_push : {A : Type 0} (line : ℕ → A → List ℕ) (k : ℕ) (xs : List A) (x : A) → numbered line k (xs ++ x ∷ []) ≡ numbered line k xs ++ line (k + length xs) x
 numbered_push line k [] x = rw (add-zero, append-nil) refl
@@ -25,13 +25,13 @@ pub lines_more : {A : Type 0} (line : ℕ → A → List ℕ) (xs : List A) (i :
     → old ≡ first ++ numbered line 1 (take i xs) → pushed ≡ line (i + 1) x → new ≡ old ++ pushed → new ≡ first ++ numbered line 1 (take (i + 1) xs)
 lines_more line xs i x first old pushed new h e o p n = rw (n, o, p, numbered_more line xs i x h e) (append_assoc first (numbered line 1 (take i xs)) (line (i + 1) x))
 
-five : (v w x y z : List ℕ) → ((((v ++ w) ++ x) ++ y) ++ z) ≡ v ++ ((w ++ (x ++ y)) ++ z)
-five v w x y z = simp append_assoc
+parts_joined : (r a s b n q c e d : List ℕ) → ((((r ++ (a ++ (s ++ (b ++ (n ++ q))))) ++ c) ++ e) ++ d) ≡ (r ++ (a ++ (s ++ (b ++ n)))) ++ ((q ++ (c ++ e)) ++ d)
+parts_joined r a s b n q c e d = simp append_assoc
 
 -- the lines of a rating, one text after another
-pub rating_joined : (p l : ℕ) (places : List ℕ) (ms : List Module) (zs : List ℤ) (a b d e f : List ℕ)
-    → a ≡ rate_line p l → b ≡ a ++ codes "places" → d ≡ b ++ numbered spaced 1 places → e ≡ d ++ codes "\n"
-    → f ≡ e ++ numbered (λ k m. module_line zs k (entry_of m)) 1 ms → f ≡ rating_lines p l places (map entry_of ms) zs
-rating_joined p l places ms zs a b d e f first second third fourth last =
-    rw (last, fourth, third, second, first, numbered_map entry_of (module_line zs) 1 ms)
-    (five (rate_line p l) (codes "places") (numbered spaced 1 places) (codes "\n") (numbered (module_line zs) 1 (map entry_of ms)))
+pub rating_joined : (p l : ℕ) (places : List ℕ) (ms : List Module) (zs : List ℤ) (a b d f : List ℕ)
+    → a ≡ codes "rate " ++ (decimal p ++ (codes "/" ++ (decimal l ++ codes "\nplaces"))) → b ≡ a ++ numbered spaced 1 places → d ≡ b ++ codes "\n"
+    → f ≡ d ++ numbered (λ k m. module_line zs k (entry_of m)) 1 ms → f ≡ rating_lines p l places (map entry_of ms) zs
+rating_joined p l places ms zs a b d f first second third last =
+    rw (last, third, second, first, numbered_map entry_of (module_line zs) 1 ms)
+    (parts_joined (codes "rate ") (decimal p) (codes "/") (decimal l) (codes "\n") (codes "places") (numbered spaced 1 places) (codes "\n") (numbered (module_line zs) 1 (map entry_of ms)))

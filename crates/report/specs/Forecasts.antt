@@ -1,5 +1,5 @@
 -- The text that the forecasting program prints of a file. Assumes nothing.
-use Rattle.std.specs.Prelude.{◌≡◌, ℕ, ◌-◌, ◌⊎◌, List, ◌++◌, Some, None, codes, decimal, slice_index}
+use Rattle.std.specs.Prelude.{◌≡◌, ℕ, ◌-◌, ◌⊎◌, List, Some, None, decimal, slice_index}
 use Rattle.forecasting.specs.Forecasts.{forecast_fault}
 use Rattle.counts.specs.Nets.{net_of}
 use Rattle.counts.specs.Steps.{freely}
@@ -8,12 +8,12 @@ use Rattle.netlist.specs.declared.netlist.Netlist.{Netlist}
 use Rattle.netlist.specs.declared.refusal.Refusal.{Refusal}
 use Rattle.netlist.specs.Holds.{modules_of}
 use Rattle.netlist.specs.Layout.{Entry}
-use Rattle.report.specs.Lines.{numbered, refused}
+use Rattle.report.specs.Lines.{named, numbered, refused}
 use Rattle.report.specs.Texts.{CheckText}
 
 -- as `module 3 rs 7`: number, name and firings
 abbrev pub counted : ℕ → ℕ → Entry → List ℕ
-counted x k m = codes "module " ++ (decimal k ++ (codes " " ++ (m.name ++ (codes " " ++ (decimal x ++ codes "\n")))))
+counted x = named (decimal x)
 
 -- the firings of module k are the entry k - 1 of a list
 abbrev pub count_line : List ℕ → ℕ → Entry → List ℕ

@@ -2,3 +2,4 @@ pub mod Lines
 pub mod Texts
 pub mod Sizes
 pub mod Forecasts
+pub mod Files

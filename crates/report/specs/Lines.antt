@@ -21,9 +21,13 @@ spaced k p = codes " " ++ decimal p
 abbrev pub places_line : List ℕ → List ℕ
 places_line ps = codes "places" ++ (numbered spaced 1 ps ++ codes "\n")
 
--- as `module 3 rs 0`: number, name and potential
+-- as `module 3 rs 0`: number, name and the words of a value
+abbrev pub named : List ℕ → ℕ → Entry → List ℕ
+named words k m = codes "module " ++ (decimal k ++ (codes " " ++ (m.name ++ (codes " " ++ (words ++ codes "\n")))))
+
+-- the value is a potential
 abbrev pub line_of : ℤ → ℕ → Entry → List ℕ
-line_of z k m = codes "module " ++ (decimal k ++ (codes " " ++ (m.name ++ (codes " " ++ (signed_decimal z ++ codes "\n")))))
+line_of z = named (signed_decimal z)
 
 -- the potential of module k is the entry k - 1 of a list
 abbrev pub module_line : List ℤ → ℕ → Entry → List ℕ

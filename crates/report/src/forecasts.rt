@@ -1,15 +1,18 @@
-ghost use Rattle.std.specs.Prelude.{◌≡◌, ◌+◌, ◌<◌, ◌≤◌, length, IfOk, None, string_bytes, slice_index};
-ghost use Rattle.netlist.specs.Holds.{channels, entry_of};
-ghost use Rattle.rating.specs.Sizings.{sizing_fault};
-ghost use Rattle.report.specs.Forecasts.{StepsText, count_line, counted};
+ghost use Rattle.std.specs.Prelude.{◌≡◌, ◌≤◌, length, IfOk, string_bytes};
+ghost use Rattle.netlist.specs.Holds.{entry_of};
+ghost use Rattle.report.specs.Files.{Tells};
+ghost use Rattle.report.specs.Forecasts.{StepsText, count_line};
 ghost use Rattle.report.specs.Lines.{numbered};
 ghost use Rattle.report.specs.Texts.{Prints};
 
-use crate::texts::CHANNELS;
+use crate::file::NetlistFile;
+use crate::lines::module_text;
+use crate::listing::add_lines;
+use crate::telling::or_refusal;
 use checking::check;
 use forecasting::forecast;
 use marked::MODULES;
-use netlist::{Module, Netlist, ReadError, read};
+use netlist::{Module, ReadError};
 use std::alloc::{AllocError, Global};
 
 /// The lines of the forecast of a netlist file under its own sizing: the firings of each module after so many free steps; or the
@@ -17,36 +20,21 @@ use std::alloc::{AllocError, Global};
 pub fn forecast_text(heap: Global, file: &[u8], steps: u32) -> Result<String, AllocError>
     ensures { IfOk result (λ text. Prints (StepsText steps) file.now (string_bytes text)) }
 {
-    let mut netlist = Netlist::new(heap)?;
-    let mut table = [1; CHANNELS];
-    match read(heap, file, &mut netlist, &mut table) {
-        Ok(()) => {}
-        Err(ReadError::Refused(refusal)) => return format!(in heap; "{refusal}\n"),
-        Err(ReadError::NoMemory) => return Err(AllocError),
-    }
-    let channels = netlist.channels().len();
-    steps_text(heap, &netlist, &table[0..channels], steps)
+    let told = NetlistFile::read(heap, file).and_then(|file| steps_text(heap, &file, steps));
+    or_refusal(heap, told)
 }
 
-// The same of a netlist and a sizing that was tested.
-fn steps_text(
-    heap: Global,
-    netlist: &Netlist,
-    sizing: &[u8],
-    steps: u32,
-) -> Result<String, AllocError>
-    requires { sizing_fault (channels netlist.now) sizing.now ≡ None }
-    ensures { IfOk result (λ text. StepsText steps netlist.now sizing.now (string_bytes text)) }
+// The same of a file that was read.
+fn steps_text(heap: Global, file: &NetlistFile, steps: u32) -> Result<String, ReadError>
+    ensures { Tells (StepsText steps file.now.netlist file.now.sizing.items) result }
 {
-    let checked = match check(netlist) {
-        Ok(checked) => checked,
-        Err(refusal) => return format!(in heap; "{refusal}\n"),
-    };
+    let netlist = file.netlist();
+    let checked = check(netlist)?;
+    // With an entry for each of the most modules, as the definition of this text says: a Vec of that length would be no plainer.
     let mut firings = [0; MODULES];
-    match forecast(checked, sizing, steps, &mut firings) {
-        Ok(()) => counts_text(heap, netlist.modules(), &firings),
-        Err(refusal) => format!(in heap; "{refusal}\n"),
-    }
+    forecast(checked, file.sizing(), steps, &mut firings)?;
+    let text = counts_text(heap, netlist.modules(), &firings)?;
+    Ok(text)
 }
 
 // A line for each module.
@@ -55,25 +43,8 @@ fn counts_text(heap: Global, modules: &[Module], firings: &[u32]) -> Result<Stri
     ensures { IfOk result (λ s. string_bytes s ≡ numbered (λ k m. count_line firings.now k (entry_of m)) 1 modules.now) }
 {
     let mut text = String::new(heap);
-    for (at, module) in modules.iter().enumerate() {
-        let line = count_text(heap, module, firings, at)?;
-        text.push_str(line.as_str())?;
-    }
+    add_lines(&mut text, modules, |number, module| {
+        module_text(heap, number, module, firings[number - 1])
+    })?;
     Ok(text)
-}
-
-// The line of the module at an index, with its firings.
-fn count_text(
-    heap: Global,
-    module: &Module,
-    firings: &[u32],
-    at: usize,
-) -> Result<String, AllocError>
-    requires { at < length firings.now }
-    ensures { IfOk result (λ s. string_bytes s ≡ counted (slice_index firings.now at) (at + 1) (entry_of «module».now)) }
-{
-    let number = at + 1;
-    let name = module.name.as_str();
-    let count = firings[at];
-    format!(in heap; "module {number} {name} {count}\n")
 }

@@ -1,53 +1,30 @@
-ghost use Rattle.std.specs.Prelude.{◌≡◌, ◌+◌, ◌<◌, ◌≤◌, ◌++◌, map, length, pos, IfOk, string_bytes, OnOk, slice_index_or};
+ghost use Rattle.std.specs.Prelude.{◌≡◌, ◌≤◌, ◌++◌, map, length, IfOk, IfSome, string_bytes, OnOk};
 ghost use Rattle.netlist.specs.Holds.{entry_of};
-ghost use Rattle.report.specs.Lines.{line_of, module_line, numbered, rating_lines, spaced};
+ghost use Rattle.report.specs.Lines.{named, numbered, rating_lines, spaced};
 
+use crate::listing::add_lines;
 use netlist::Module;
 use std::alloc::{AllocError, Global};
+use std::fmt::Display;
 
-// The line of the module at an index, with its potential.
-fn module_text(
+// The line of a module: its number, its name and a value.
+pub(crate) fn module_text<N: Display + Drop>(
     heap: Global,
+    number: usize,
     module: &Module,
-    potentials: &[i32],
-    at: usize,
+    value: N,
 ) -> Result<String, AllocError>
-    requires { at < length potentials.now }
-    ensures { IfOk result (λ s. string_bytes s ≡ line_of (slice_index_or potentials.now at (pos 0)) (at + 1) (entry_of «module».now)) }
+    ensures { IfSome (N.output value) (λ words. IfOk result (λ s. string_bytes s ≡ named words number (entry_of «module».now))) }
 {
-    let number = at + 1;
     let name = module.name.as_str();
-    let potential = potentials[at];
-    format!(in heap; "module {number} {name} {potential}\n")
+    format!(in heap; "module {number} {name} {value}\n")
 }
 
 // The places of a cycle, a space before each.
 fn add_places(heap: Global, text: &mut String, places: &[u16]) -> Result<(), AllocError>
     ensures { OnOk result (string_bytes text.new ≡ string_bytes text.old ++ numbered spaced 1 places.now) }
 {
-    for place in places {
-        let number = *place;
-        let word = format!(in heap; " {number}")?;
-        text.push_str(word.as_str())?;
-    }
-    Ok(())
-}
-
-// A line for each module.
-fn add_modules(
-    heap: Global,
-    text: &mut String,
-    modules: &[Module],
-    potentials: &[i32],
-) -> Result<(), AllocError>
-    requires { length modules.now ≤ length potentials.now }
-    ensures { OnOk result (string_bytes text.new ≡ string_bytes text.old ++ numbered (λ k m. module_line potentials.now k (entry_of m)) 1 modules.now) }
-{
-    for (at, module) in modules.iter().enumerate() {
-        let line = module_text(heap, module, potentials, at)?;
-        text.push_str(line.as_str())?;
-    }
-    Ok(())
+    add_lines(text, places, |_, place| format!(in heap; " {place}"))
 }
 
 // The lines of a rating.
@@ -62,10 +39,11 @@ pub(crate) fn rating_text(
     ensures { IfOk result (λ s. string_bytes s ≡ rating_lines rate.0 rate.1 places.now (map entry_of modules.now) potentials.now) }
 {
     let (p, l) = rate;
-    let mut text = format!(in heap; "rate {p}/{l}\n")?;
-    text.push_str("places")?;
+    let mut text = format!(in heap; "rate {p}/{l}\nplaces")?;
     add_places(heap, &mut text, places)?;
     text.push_str("\n")?;
-    add_modules(heap, &mut text, modules, potentials)?;
+    add_lines(&mut text, modules, |number, module| {
+        module_text(heap, number, module, potentials[number - 1])
+    })?;
     Ok(text)
 }

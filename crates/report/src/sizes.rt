@@ -1,14 +1,16 @@
-ghost use Rattle.std.specs.Prelude.{◌≡◌, ◌≤◌, ◌++◌, length, IfOk, None, string_bytes, OnOk};
-ghost use Rattle.netlist.specs.Holds.{channels};
-ghost use Rattle.rating.specs.Sizings.{sizing_fault};
+ghost use Rattle.std.specs.Prelude.{◌≡◌, ◌≤◌, ◌++◌, length, IfOk, string_bytes, OnOk};
+ghost use Rattle.report.specs.Files.{Tells};
 ghost use Rattle.report.specs.Lines.{numbered};
 ghost use Rattle.report.specs.Sizes.{RequestText, deepened, deepened_line};
 ghost use Rattle.report.specs.Texts.{Prints};
 
+use crate::file::NetlistFile;
+use crate::listing::add_lines;
 use crate::request::Request;
-use crate::texts::{CHANNELS, checked_text};
+use crate::telling::or_refusal;
+use crate::texts::checked_text;
 use checking::check;
-use netlist::{Netlist, ReadError, read};
+use netlist::ReadError;
 use sizing::size;
 use std::alloc::{AllocError, Global};
 
@@ -17,48 +19,25 @@ use std::alloc::{AllocError, Global};
 pub fn size_text(heap: Global, file: &[u8], request: Request) -> Result<String, AllocError>
     ensures { IfOk result (λ text. Prints (RequestText request) file.now (string_bytes text)) }
 {
-    let mut netlist = Netlist::new(heap)?;
-    let mut table = [1; CHANNELS];
-    match read(heap, file, &mut netlist, &mut table) {
-        Ok(()) => {}
-        Err(ReadError::Refused(refusal)) => return format!(in heap; "{refusal}\n"),
-        Err(ReadError::NoMemory) => return Err(AllocError),
-    }
-    let channels = netlist.channels().len();
-    let mut sizing = table;
-    request_text(
-        heap,
-        &netlist,
-        request,
-        &table[0..channels],
-        &mut sizing[0..channels],
-    )
+    let told = NetlistFile::read(heap, file).and_then(|file| request_text(heap, &file, request));
+    or_refusal(heap, told)
 }
 
-// The same of a netlist and a sizing that was tested, of which `sizing` is a copy to change.
-fn request_text(
-    heap: Global,
-    netlist: &Netlist,
-    request: Request,
-    before: &[u8],
-    sizing: &mut [u8],
-) -> Result<String, AllocError>
-    requires tested { sizing_fault (channels netlist.now) before.now ≡ None }
-    requires same { sizing.old ≡ before.now }
-    ensures { IfOk result (λ text. RequestText request netlist.now before.now (string_bytes text)) }
+// The same of a file that was read.
+fn request_text(heap: Global, file: &NetlistFile, request: Request) -> Result<String, ReadError>
+    ensures { Tells (RequestText request file.now.netlist file.now.sizing.items) result }
 {
-    let checked = match check(netlist) {
-        Ok(checked) => checked,
-        Err(refusal) => return format!(in heap; "{refusal}\n"),
-    };
-    let channels = netlist.channels().len();
-    let caps = [request.cap; CHANNELS];
-    let target = request.target;
-    let allowance = request.allowance;
-    let added = match size(checked, target, &caps[0..channels], allowance, sizing) {
-        Ok(added) => added,
-        Err(refusal) => return format!(in heap; "{refusal}\n"),
-    };
+    let Request {
+        target,
+        allowance,
+        cap,
+    } = request;
+    let checked = check(file.netlist())?;
+    let before = file.sizing();
+    let caps = vec![in heap; cap; before.len()]?;
+    let mut table = before.to_vec(heap)?;
+    let sizing = table.as_mut_slice();
+    let added = size(checked, target, caps.as_slice(), allowance, sizing)?;
     let rating = checked_text(heap, checked, sizing)?;
     let mut text = format!(in heap; "added {added}\n")?;
     add_deepened(heap, &mut text, before, sizing)?;
@@ -86,9 +65,7 @@ pub fn add_deepened(
     requires { length after.now ≤ length before.now }
     ensures { OnOk result (string_bytes text.new ≡ string_bytes text.old ++ numbered (deepened_line before.now) 1 after.now) }
 {
-    for (at, size) in after.iter().enumerate() {
-        let line = deepened_text(heap, at + 1, before[at], *size)?;
-        text.push_str(line.as_str())?;
-    }
-    Ok(())
+    add_lines(text, after, |number, size| {
+        deepened_text(heap, number, before[number - 1], *size)
+    })
 }

@@ -1,43 +1,33 @@
 ghost use Rattle.std.specs.Prelude.{◌≡◌, IfOk, None, string_bytes};
 ghost use Rattle.netlist.specs.Holds.{channels};
-ghost use Rattle.checking.specs.Verdicts.{Passed};
 ghost use Rattle.rating.specs.Sizings.{sizing_fault};
+ghost use Rattle.report.specs.Files.{Tells};
 ghost use Rattle.report.specs.Texts.{NetlistText, Prints, RatedText};
 
+use crate::file::NetlistFile;
 use crate::lines::rating_text;
+use crate::telling::or_refusal;
 use checking::{Checked, check};
 use marked::MODULES;
-use netlist::{Netlist, ReadError, read};
+use netlist::ReadError;
 use rating::rate;
 use std::alloc::{AllocError, Global};
-
-// As many queue sizes as a netlist can have channels.
-pub(crate) const CHANNELS: usize = 192;
 
 /// The lines of the rating of a netlist file under its own sizing, or the refusal's line alone.
 pub fn rate_text(heap: Global, file: &[u8]) -> Result<String, AllocError>
     ensures { IfOk result (λ text. Prints NetlistText file.now (string_bytes text)) }
 {
-    let mut netlist = Netlist::new(heap)?;
-    let mut table = [1; CHANNELS];
-    match read(heap, file, &mut netlist, &mut table) {
-        Ok(()) => {}
-        Err(ReadError::Refused(refusal)) => return format!(in heap; "{refusal}\n"),
-        Err(ReadError::NoMemory) => return Err(AllocError),
-    }
-    let channels = netlist.channels().len();
-    netlist_text(heap, &netlist, &table[0..channels])
+    let told = NetlistFile::read(heap, file).and_then(|file| netlist_text(heap, &file));
+    or_refusal(heap, told)
 }
 
-// The same of a netlist and a sizing that was tested.
-fn netlist_text(heap: Global, netlist: &Netlist, sizing: &[u8]) -> Result<String, AllocError>
-    requires { sizing_fault (channels netlist.now) sizing.now ≡ None }
-    ensures { IfOk result (λ text. NetlistText netlist.now sizing.now (string_bytes text)) }
+// The same of a file that was read.
+fn netlist_text(heap: Global, file: &NetlistFile) -> Result<String, ReadError>
+    ensures { Tells (NetlistText file.now.netlist file.now.sizing.items) result }
 {
-    match check(netlist) {
-        Ok(checked) => checked_text(heap, checked, sizing),
-        Err(refusal) => format!(in heap; "{refusal}\n"),
-    }
+    let checked = check(file.netlist())?;
+    let text = checked_text(heap, checked, file.sizing())?;
+    Ok(text)
 }
 
 // The lines of the rating of a checked netlist.
@@ -46,15 +36,14 @@ pub(crate) fn checked_text(
     checked: Checked,
     sizing: &[u8],
 ) -> Result<String, AllocError>
-    requires passed { Passed checked.netlist.now }
-    requires sized { sizing_fault (channels checked.netlist.now) sizing.now ≡ None }
+    requires { sizing_fault (channels checked.netlist.now) sizing.now ≡ None }
     ensures { IfOk result (λ text. RatedText checked.entry.netlist.now sizing.now (string_bytes text)) }
 {
+    // With an entry for each of the most modules: two Vecs would be two calls more that can fail for memory, and no plainer.
     let mut cycle = [0; MODULES];
     let mut potentials = [0; MODULES];
-    let rating = match rate(checked, sizing, &mut cycle, &mut potentials) {
-        Ok(rating) => rating,
-        Err(_) => unreachable(),
+    let Ok(rating) = rate(checked, sizing, &mut cycle, &mut potentials) else {
+        unreachable()
     };
     let length = rating.length();
     let modules = rating.netlist().modules();

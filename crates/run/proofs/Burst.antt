@@ -4,27 +4,37 @@ use mathlib.Core.Path.{fun_ext}
 use Rattle.std.proofs.lemmas.Bool.{cases_eq, cases_lt, cases_Bool, le-ltb}
 use Rattle.cores.specs.Rules.{Rules}
 use Rattle.run.specs.declared.inner.Inner.{Inner}
+use Rattle.run.specs.declared.inner.ModuleState.{ModuleState}
 use Rattle.counts.specs.Nets.{Net}
 use Rattle.counts.specs.Origins.{Enabled, puts}
 use Rattle.queues.specs.Strict.{Chip}
 use Rattle.queues.specs.Flows.{bump, more, first}
 use Rattle.queues.specs.Stands.{Stands}
-use Rattle.run.specs.Told.{Lists, Framed, Planned}
+use Rattle.run.specs.Told.{Counts, Framed, Planned, state_at, unused}
 use Rattle.queues.proofs.Replacing.{bump_same, bump_other}
 use Rattle.queues.proofs.Turns.{more_none, more_all, more_here, more_on, more_off}
 
 pub framed_refl : (i : Inner) → Framed i i
-framed_refl i = record { modules = refl; entries = refl; blocks = refl; marks = refl; primed = refl; steps = refl }
+framed_refl i = record { modules = refl; entries = refl; blocks = refl; marks = λ k. refl; primed = refl; steps = refl }
 
 pub framed_trans : (i j k : Inner) → Framed i j → Framed j k → Framed i k
 framed_trans i j k p q = record {
   modules = p.modules ∙ q.modules;
   entries = p.entries ∙ q.entries;
   blocks = p.blocks ∙ q.blocks;
-  marks = p.marks ∙ q.marks;
+  marks = λ k. p.marks k ∙ q.marks k;
   primed = p.primed ∙ q.primed;
   steps = p.steps ∙ q.steps;
 }
+
+-- a firing of module n + 1 leaves the marks as they are
+pub marks_still : (i i' : Inner) (n y : ℕ) → n < length i.states → i'.states ≡ set i.states n (record { firings = y; marked = (state_at i n).marked }) → (k : ℕ) → (state_at i' k).marked ≡ (state_at i k).marked
+marks_still i i' n y inside wrote k =
+    let x : ModuleState = record { firings = y; marked = (state_at i n).marked } in
+    ap (λ (xs : List ModuleState). (get_or xs k unused).marked) wrote ∙ elim (cases_eq k n) [
+      | inl q ↦ subst (λ (j : ℕ). (get_or (set i.states n x) j unused).marked ≡ (state_at i j).marked) (sym q) (ap (λ (s : ModuleState). s.marked) (get_or-set_same i.states n x unused inside))
+      | inr ne ↦ ap (λ (s : ModuleState). s.marked) (get_or-set_other i.states n k x unused ne)
+    ]
 
 -- the firings after those of the modules up to the number n
 abbrev pub upto : (ℕ → ℕ) → (ℕ → Bool) → ℕ → ℕ → ℕ
@@ -48,7 +58,7 @@ module _ (net : Net) (f f' : ℕ → ℕ) (v : ℕ) (grown : (u : ℕ) → f u �
 pub record Burst {Item State : Type 0} (i₀ : Inner) (r₀ : Rules Item State) (h₀ : ℕ → State) (t₀ : List Item) (firing : List Bool) (n : ℕ) (i : Inner) (r : Rules Item State) (h : ℕ → State) (t : List Item) : Type 0 where
   pub framed : Framed i i₀
   pub flow : (ok : Bool) (before : List Item) (chip : Chip Item State) (f : ℕ → ℕ) (go : ℕ → Bool) → Planned ok before chip f go i₀ r₀ h₀ t₀ firing
-      → Stands ok before chip (upto f go n) (puts chip.net (upto f go n)) i.channels r h t × Lists i₀.modules i.firings 0 (upto f go n)
+      → Stands ok before chip (upto f go n) (puts chip.net (upto f go n)) i.channels r h t × Counts i₀.modules i (upto f go n)
 
 module _ {Item State : Type 0} (i₀ : Inner) (r₀ : Rules Item State) (h₀ : ℕ → State) (t₀ : List Item) (firing : List Bool) where
   -- there is no module 0
@@ -61,7 +71,7 @@ module _ {Item State : Type 0} (i₀ : Inner) (r₀ : Rules Item State) (h₀ : 
     flow = λ ok before chip f go pl.
         let still : f ≡ upto f go 0 = fun_ext (λ u. more_none f go 0 u ∙ more_off f go 0 (go_zero ok before chip f go pl) u) in (
           subst (λ (x : ℕ → ℕ). Stands ok before chip x (puts chip.net x) i₀.channels r₀ h₀ t₀) still pl.stands,
-          subst (λ (x : ℕ → ℕ). Lists i₀.modules i₀.firings 0 x) still pl.counts,
+          subst (λ (x : ℕ → ℕ). Counts i₀.modules i₀ x) still pl.counts,
         );
   }
 
@@ -73,12 +83,12 @@ module _ {Item State : Type 0} (i₀ : Inner) (r₀ : Rules Item State) (h₀ : 
         let earlier = b.flow ok before chip f go pl in
         let still : upto f go n ≡ upto f go (n + 1) = fun_ext (λ u. more_off f go (n + 1) (sym (pl.going n lt) ∙ off) u) in (
           subst (λ (x : ℕ → ℕ). Stands ok before chip x (puts chip.net x) i.channels r h t) still earlier.0,
-          subst (λ (x : ℕ → ℕ). Lists i₀.modules i.firings 0 x) still earlier.1,
+          subst (λ (x : ℕ → ℕ). Counts i₀.modules i x) still earlier.1,
         );
   }
 
   pub burst_on : (n : ℕ) (i i' : Inner) (r r' : Rules Item State) (h h' : ℕ → State) (t t' : List Item) → Burst i₀ r₀ h₀ t₀ firing n i r h t → n < i₀.modules → get_or firing n false ≡ true
-      → Framed i' i → n < length i.firings → i'.firings ≡ set i.firings n ((get_or i.firings n 0 + 1) % 2 ^ 32)
+      → Framed i' i → n < length i.states → i'.states ≡ set i.states n (record { firings = ((state_at i n).firings + 1) % 2 ^ 32; marked = (state_at i n).marked })
       → ((ok : Bool) (before : List Item) (chip : Chip Item State) (f : ℕ → ℕ) → Stands ok before chip f (puts chip.net f) i.channels r h t → get_or i.blocks n false ≡ chip.net.block (n + 1) → Enabled chip.net f (n + 1)
       → Stands ok before chip (bump f (n + 1)) (puts chip.net (bump f (n + 1))) i'.channels r' h' t')
       → Burst i₀ r₀ h₀ t₀ firing (n + 1) i' r' h' t'
@@ -92,21 +102,22 @@ module _ {Item State : Type 0} (i₀ : Inner) (r₀ : Rules Item State) (h₀ : 
         let next : bump f₁ (n + 1) ≡ upto f go (n + 1) = fun_ext (λ u. more_on f go (n + 1) goes u) in
         let blk : get_or i.blocks n false ≡ chip.net.block (n + 1) = ap (λ xs. get_or xs n false) b.framed.blocks ∙ pl.blocks n lt in
         let en : Enabled chip.net f₁ (n + 1) = enabled_later chip.net f f₁ (n + 1) (λ u. omega arith) here (pl.enabled (n + 1) goes) in
-        let old : get_or i.firings n 0 ≡ f (n + 1) = earlier.1 n lt ∙ here in
-        let small : get_or i.firings n 0 + 1 < 2 ^ 32 = omega (arith, old, pl.small (n + 1)) in (
+        let old : (state_at i n).firings ≡ f (n + 1) = earlier.1 n lt ∙ here in
+        let small : (state_at i n).firings + 1 < 2 ^ 32 = omega (arith, old, pl.small (n + 1)) in
+        let x : ModuleState = record { firings = ((state_at i n).firings + 1) % 2 ^ 32; marked = (state_at i n).marked } in (
           subst (λ (x : ℕ → ℕ). Stands ok before chip x (puts chip.net x) i'.channels r' h' t') next (told ok before chip f₁ earlier.0 blk en),
-          subst (λ (x : ℕ → ℕ). Lists i₀.modules i'.firings 0 x) next
-              (λ k l. ap (λ xs. get_or xs k 0) wrote ∙ elim (cases_eq k n) [
-                | inl q ↦ subst (λ (j : ℕ). get_or (set i.firings n ((get_or i.firings n 0 + 1) % 2 ^ 32)) j 0 ≡ bump f₁ (n + 1) (j + 1)) (sym q)
-                    (get_or-set_same i.firings n ((get_or i.firings n 0 + 1) % 2 ^ 32) 0 inside ∙ mod-eq_of_lt small ∙ ap (λ x. x + 1) (earlier.1 n lt) ∙ sym (bump_same f₁ (n + 1)))
-                | inr ne ↦ get_or-set_other i.firings n k ((get_or i.firings n 0 + 1) % 2 ^ 32) 0 ne ∙ earlier.1 k l ∙ sym (bump_other f₁ (n + 1) (k + 1) (λ q. ne (omega arith)))
+          subst (λ (x : ℕ → ℕ). Counts i₀.modules i' x) next
+              (λ k l. ap (λ (xs : List ModuleState). (get_or xs k unused).firings) wrote ∙ elim (cases_eq k n) [
+                | inl q ↦ subst (λ (j : ℕ). (get_or (set i.states n x) j unused).firings ≡ bump f₁ (n + 1) (j + 1)) (sym q)
+                    (ap (λ (s : ModuleState). s.firings) (get_or-set_same i.states n x unused inside) ∙ mod-eq_of_lt small ∙ ap (λ y. y + 1) (earlier.1 n lt) ∙ sym (bump_same f₁ (n + 1)))
+                | inr ne ↦ ap (λ (s : ModuleState). s.firings) (get_or-set_other i.states n k x unused ne) ∙ earlier.1 k l ∙ sym (bump_other f₁ (n + 1) (k + 1) (λ q. ne (omega arith)))
               ]),
         );
   }
 
   pub burst_all : (n : ℕ) (i : Inner) (r : Rules Item State) (h : ℕ → State) (t : List Item) → Burst i₀ r₀ h₀ t₀ firing n i r h t → i₀.modules ≤ n
       → (ok : Bool) (before : List Item) (chip : Chip Item State) (f : ℕ → ℕ) (go : ℕ → Bool) → Planned ok before chip f go i₀ r₀ h₀ t₀ firing
-      → Stands ok before chip (more f go) (puts chip.net (more f go)) i.channels r h t × Lists i.modules i.firings 0 (more f go)
+      → Stands ok before chip (more f go) (puts chip.net (more f go)) i.channels r h t × Counts i.modules i (more f go)
   burst_all n i r h t b le ok before chip f go pl =
       let after = b.flow ok before chip f go pl in
       let past : (u : ℕ) → n < u → go u ≡ false = λ u lt. elim (cases_Bool (go u)) [ inl q ↦ absurd (omega (arith, (pl.only u q).1, pl.modules)) | inr q ↦ q ] in
@@ -115,5 +126,5 @@ module _ {Item State : Type 0} (i₀ : Inner) (r₀ : Rules Item State) (h₀ : 
         | inr l ↦ more_all f go (n + 1) u (omega arith)
       ]) in (
         subst (λ (x : ℕ → ℕ). Stands ok before chip x (puts chip.net x) i.channels r h t) all after.0,
-        λ k lt. subst (λ (x : ℕ → ℕ). Lists i₀.modules i.firings 0 x) all after.1 k (omega (arith, b.framed.modules)),
+        λ k lt. subst (λ (x : ℕ → ℕ). Counts i₀.modules i x) all after.1 k (omega (arith, b.framed.modules)),
       )

@@ -1,5 +1,5 @@
 -- The records of a new run. Assumes nothing.
-use Rattle.std.proofs.Common.{◌≡◌, ℕ, ◌+◌, ◌<◌, ◌≤◌, true, List, length, get_or, set, replicate, None, sym, refl, ap, ◌∙◌, subst, inl, inr, add-one, arith, length-set, get_or-set_other, get_or-set_same}
+use Rattle.std.proofs.Common.{◌≡◌, ℕ, ◌+◌, ◌<◌, ◌≤◌, true, List, length, get_or, set, replicate, None, sym, refl, ap, ◌∙◌, subst, subst₂, inl, inr, add-one, arith, length-set, get_or-set_other, get_or-set_same}
 use Rattle.std.proofs.lemmas.Bool.{cases_eq, cases_lt}
 use Rattle.std.proofs.lemmas.List.{get_or-replicate, get_or_past}
 use Rattle.netlist.specs.declared.channel.Channel.{Channel}
@@ -11,9 +11,10 @@ use Rattle.counts.specs.Nets.{net_of}
 use Rattle.counts.specs.Origins.{base}
 use Rattle.queues.specs.declared.channels.Channels.{Channels}
 use Rattle.queues.specs.declared.queue.Queue.{Queue}
-use Rattle.queues.specs.Flows.{Apart, Flows, Sounds, blank, queue_at}
+use Rattle.queues.specs.Flows.{Flows, queue_at}
+use Rattle.queues.specs.Parts.{blank}
 use Rattle.queues.specs.Stands.{Matches}
-use Rattle.queues.proofs.Tables.{base_up, flows_none}
+use Rattle.queues.proofs.Tables.{flows_none}
 use Rattle.run.specs.Making.{LaidOut, Small, nowhere, queue_of, size_at}
 
 base_more : (size : ℕ → ℕ) (n : ℕ) → base size (n + 1) ≡ base size n + (size n + 1)
@@ -49,7 +50,20 @@ laid_more cs qs queues n next l lt small =
       next_high = omega (arith, l.next_high, small);
     }
 
-module _ (n : Netlist) (qs : List ℕ) (cs : List Channel) (w : Channels) (entries : ℕ) (lends : cs ≡ channels_of n) (same : length qs ≡ length cs) (count : w.count ≡ length cs) (l : LaidOut cs qs w.queues (length cs) entries) where
+-- one more channel behind those that are laid out
+pub laid_add : (cs : List Channel) (qs : List ℕ) (w w' : Channels) (e : ℕ) → (w.count ≡ e) × LaidOut cs qs w.queues e w.entries → e < 192 → size_at qs e ≤ 16
+    → w'.count ≡ w.count + 1 → w'.entries ≡ w.entries + (size_at qs e + 1)
+    → w'.queues ≡ set w.queues w.count (record { source = (get_or cs e nowhere).source; sink = (get_or cs e nowhere).sink; size = size_at qs e; base = w.entries; fill = 0; oldest = 0 })
+    → (w'.count ≡ e + 1) × LaidOut cs qs w'.queues (e + 1) w'.entries
+laid_add cs qs w w' e (at, l) lt small count entries queues =
+    let x : Queue = record { source = (get_or cs e nowhere).source; sink = (get_or cs e nowhere).sink; size = size_at qs e; base = w.entries; fill = 0; oldest = 0 } in
+    let queues_are : w'.queues ≡ set w.queues e x = queues ∙ ap (λ n. set w.queues n x) at in
+    let more = laid_more cs qs w.queues e w.entries l lt small in (
+      count ∙ ap (λ n. n + 1) at,
+      subst₂ (λ (xs : List Queue) (n : ℕ). LaidOut cs qs xs (e + 1) n) (sym queues_are) (sym entries) more,
+    )
+
+module _ (n : Netlist) (qs : List ℕ) (cs : List Channel) (w : Channels) (lends : cs ≡ channels_of n) (same : length qs ≡ length cs) (count : w.count ≡ length cs) (l : LaidOut cs qs w.queues (length cs) w.entries) where
   -- a field of a record is that of the lists, within and past their end
   field : (f : Queue → ℕ) (g : ℕ → ℕ) → ((e : ℕ) → f (queue_of cs qs e) ≡ g e) → ((e : ℕ) → length cs ≤ e → g e ≡ f blank) → (e : ℕ) → g e ≡ f (queue_at w e)
   field f g in_it past e = elim (cases_lt e (length cs)) [
@@ -72,33 +86,11 @@ module _ (n : Netlist) (qs : List ℕ) (cs : List Channel) (w : Channels) (entri
     base_is = λ e lt. sym (ap (λ c. c.base) (l.done e (omega (arith, many))));
   }
 
-  pub sounds_laid : Small qs → Sounds w entries
-  sounds_laid small e lt =
-      let at = l.done e (in_lists e lt) in
-      let size_is : (queue_at w e).size ≡ size_at qs e = ap (λ c. c.size) at in
-      let base_is : (queue_at w e).base ≡ base (size_at qs) e = ap (λ c. c.base) at in
-      let fill_is : (queue_at w e).fill ≡ 0 = ap (λ c. c.fill) at in
-      let oldest_is : (queue_at w e).oldest ≡ 0 = ap (λ c. c.oldest) at in (
-        omega (arith, size_is, small e (omega (arith, in_lists e lt, same))),
-        omega (arith, fill_is),
-        omega (arith, oldest_is),
-        omega (arith, size_is, base_is, base_up (size_at qs) (length cs) e (in_lists e lt), l.next_is),
-      )
-
-  pub apart_laid : Apart w
-  apart_laid d e less lt =
-      let at = l.done e (in_lists e lt) in
-      let from = l.done d (omega (arith, in_lists e lt)) in
-      let a : (queue_at w e).base ≡ base (size_at qs) e = ap (λ c. c.base) at in
-      let b : (queue_at w d).base ≡ base (size_at qs) d = ap (λ c. c.base) from in
-      let s : (queue_at w d).size ≡ size_at qs d = ap (λ c. c.size) from in
-      omega (arith, a, b, s, base_up (size_at qs) e d less)
-
   -- all channels are empty
   pub flows_laid : {Item : Type 0} (table : List Item) (stream : ℕ → ℕ → Item) → Flows true table w table (λ _. 0) (λ _. 0) stream
   flows_laid table stream = flows_none w table true stream (λ e lt. ap (λ c. c.fill) (l.done e (in_lists e lt))) (λ e lt. ap (λ c. c.oldest) (l.done e (in_lists e lt)))
 
-  pub entries_are : entries ≡ base (size_at qs) (channels n)
+  pub entries_are : w.entries ≡ base (size_at qs) (channels n)
   entries_are = l.next_is ∙ ap (base (size_at qs)) many
 
 -- what a sizing without fault says of the lists that a netlist and a rating lend

@@ -10,7 +10,8 @@ use Rattle.queues.specs.Strict.{Chip, strict}
 use Rattle.queues.proofs.Strictly.{matches_kept}
 use Rattle.queues.proofs.Turns.{flows_ext}
 use Rattle.run.specs.declared.inner.Inner.{Inner}
-use Rattle.run.specs.Told.{Told}
+use Rattle.run.specs.declared.inner.ModuleState.{ModuleState}
+use Rattle.run.specs.Told.{Told, unused}
 
 strict_reset : {Item State : Type 0} (chip : Chip Item State) (v : ℕ) → (strict chip 0).item v ≡ chip.rules.reset v
 unfolding strict
@@ -50,9 +51,9 @@ module _ {Item State : Type 0} (ok : Bool) (before : List Item) (chip : Chip Ite
 
   pub told_prime : (len : ℕ) (i₂ : Inner) (t₂ : List Item) → Kept i₂.channels i.channels
       → Flows ok before i₂.channels t₂ (λ e. c.firings (chip.net.sink e)) (more (put chip.net c) (by_block i.channels i.blocks)) (items chip)
-      → i₂.modules ≡ i.modules → i₂.entries ≡ i.entries → i₂.blocks ≡ i.blocks → i₂.firings ≡ i.firings → i₂.marks ≡ i.marks → i₂.primed ≡ true → i₂.steps ≡ i.steps
+      → i₂.modules ≡ i.modules → i₂.blocks ≡ i.blocks → i₂.states ≡ i.states → i₂.primed ≡ true → i₂.steps ≡ i.steps
       → Told ok before chip (done chip.net c (prime len)) i₂ r h t₂
-  told_prime len i₂ t₂ kept out em ee eb ef ek ep es = record {
+  told_prime len i₂ t₂ kept out em eb ef ep es = record {
     stands = record {
       lawful = td.stands.lawful;
       matches = matches_kept chip.net i.channels i₂.channels td.stands.matches kept;
@@ -65,10 +66,10 @@ module _ {Item State : Type 0} (ok : Bool) (before : List Item) (chip : Chip Ite
       rest = td.stands.rest;
     };
     modules = em ∙ td.modules;
-    entries = ee ∙ td.entries;
+    entries = kept.entries ∙ td.entries;
     blocks = λ k lt. ap (λ xs. get_or xs k false) eb ∙ td.blocks k (omega (arith, em));
-    firings = λ k lt. ap (λ xs. get_or xs k 0) ef ∙ td.firings k (omega (arith, em));
-    marks = λ k lt. ap (λ xs. get_or xs k false) ek ∙ td.marks k (omega (arith, em));
+    firings = λ k lt. ap (λ (xs : List ModuleState). (get_or xs k unused).firings) ef ∙ td.firings k (omega (arith, em));
+    marks = λ k lt. ap (λ (xs : List ModuleState). (get_or xs k unused).marked) ef ∙ td.marks k (omega (arith, em));
     primed = ep;
     steps = es ∙ td.steps;
     few = td.few;

@@ -15,7 +15,7 @@ use Rattle.run.specs.Told.{Told}
 
 module _ {Item State : Type 0} (ok : Bool) (before : List Item) (chip : Chip Item State) (c : Count) (i : Inner) (r : Rules Item State) (h : ℕ → State) (t : List Item) (td : Told ok before chip c i r h t) where
   -- the tests of a step are those of the records
-  step_tests : (p s m : Bool) → i.primed ≡ p → (len : ℕ) → ltb len i.entries ≡ s → leb 100000000 i.steps ≡ m
+  step_tests : (p s m : Bool) → i.primed ≡ p → (len : ℕ) → ltb len i.channels.entries ≡ s → leb 100000000 i.steps ≡ m
       → refusal chip.net c (step len) ≡ cond p (cond s (Some (short_table chip.net)) (cond m (Some spent) None)) (Some out_of_turn)
   step_tests p s m a len b d =
       ap (λ x. cond x (cond (ltb len (entries chip.net)) (Some (short_table chip.net)) (cond (leb 100000000 c.steps) (Some spent) None)) (Some out_of_turn)) (sym td.primed ∙ a)
@@ -25,21 +25,21 @@ module _ {Item State : Type 0} (ok : Bool) (before : List Item) (chip : Chip Ite
   accepted : (o : Option Refusal) → o ≡ None → ◌≡◌ {A = Result (Unit {0}) Refusal} (Ok tt) (reply o tt)
   accepted o e = ap (λ (y : Option Refusal). reply {X = Unit {0}} y tt) (sym e)
 
-  pub step_ok : (len : ℕ) → i.primed ≡ true → i.entries ≤ len → i.steps < 100000000 → ◌≡◌ {A = Result (Unit {0}) Refusal} (Ok tt) (reply (refusal chip.net c (step len)) tt)
-  step_ok len p le ne = accepted _ (step_tests true false false p len (le-ltb len i.entries le) (lt-leb 100000000 i.steps ne))
+  pub step_ok : (len : ℕ) → i.primed ≡ true → i.channels.entries ≤ len → i.steps < 100000000 → ◌≡◌ {A = Result (Unit {0}) Refusal} (Ok tt) (reply (refusal chip.net c (step len)) tt)
+  step_ok len p le ne = accepted _ (step_tests true false false p len (le-ltb len i.channels.entries le) (lt-leb 100000000 i.steps ne))
 
-  pub prime_ok : (len : ℕ) → i.primed ≡ false → i.entries ≤ len → ◌≡◌ {A = Result (Unit {0}) Refusal} (Ok tt) (reply (refusal chip.net c (prime len)) tt)
+  pub prime_ok : (len : ℕ) → i.primed ≡ false → i.channels.entries ≤ len → ◌≡◌ {A = Result (Unit {0}) Refusal} (Ok tt) (reply (refusal chip.net c (prime len)) tt)
   prime_ok len p le = accepted _
       (ap (λ x. cond x (Some out_of_turn) (cond (ltb len (entries chip.net)) (Some (short_table chip.net)) None)) (sym td.primed ∙ p)
-      ∙ ap (λ x. cond x (Some (short_table chip.net)) None) (ap (ltb len) (sym td.entries) ∙ le-ltb len i.entries le))
+      ∙ ap (λ x. cond x (Some (short_table chip.net)) None) (ap (ltb len) (sym td.entries) ∙ le-ltb len i.channels.entries le))
 
-  front_ok : (len e : ℕ) → i.primed ≡ true → i.entries ≤ len → (e ≡ 0 → ⊥) → e ≤ chip.net.channels → refusal chip.net c (front e len) ≡ None
+  front_ok : (len e : ℕ) → i.primed ≡ true → i.channels.entries ≤ len → (e ≡ 0 → ⊥) → e ≤ chip.net.channels → refusal chip.net c (front e len) ≡ None
   front_ok len e p le ne high =
       let third : Option Refusal = cond (ltb len (entries chip.net)) (Some (short_table chip.net)) None in
       let second : Option Refusal = cond (no_channel chip.net e) (Some no_such_number) third in
       cond-true c.primed second (Some out_of_turn) (sym td.primed ∙ p)
       ∙ cond-false (no_channel chip.net e) (Some no_such_number) third (or_from (eqb e 0) (ltb chip.net.channels e) (ne_eqb e 0 ne) (le-ltb chip.net.channels e high))
-      ∙ cond-false (ltb len (entries chip.net)) (Some (short_table chip.net)) None (ap (ltb len) (sym td.entries) ∙ le-ltb len i.entries le)
+      ∙ cond-false (ltb len (entries chip.net)) (Some (short_table chip.net)) None (ap (ltb len) (sym td.entries) ∙ le-ltb len i.channels.entries le)
 
   -- what the record of the channel at place e gives as its oldest item
   abbrev Oldest : ℕ → Option Item → Type 0
@@ -53,11 +53,11 @@ module _ {Item State : Type 0} (ok : Bool) (before : List Item) (chip : Chip Ite
       let hd = td.stands.flows.each (e - 1) lt in
       let took = c.firings (chip.net.sink (e - 1)) in
       let is : x ≡ items chip (e - 1) took =
-      oldest_item (queue_at i.channels (e - 1)) t ok before took (put chip.net c (e - 1)) (items chip (e - 1)) hd sure x (omega (arith, hd.count, some.0)) (i.sounds (e - 1) lt).1 (some.1 x) in
+      oldest_item (queue_at i.channels (e - 1)) t ok before took (put chip.net c (e - 1)) (items chip (e - 1)) hd sure x (omega (arith, hd.count, some.0)) (i.channels.sounds (e - 1) lt).1 (some.1 x) in
       ap (λ (y : Item). Some y) is
       ∙ sym (cond-false (eqb (fill_of chip.net c (e - 1)) 0) None (Some (items chip (e - 1) took)) (ne_eqb (fill_of chip.net c (e - 1)) 0 (λ z. omega (arith, hd.count, some.0, z))))
 
-  pub front_told : (len e : ℕ) (o : Option Item) → ok ≡ true → i.primed ≡ true → i.entries ≤ len → (e ≡ 0 → ⊥) → e ≤ i.channels.count → Oldest (e - 1) o
+  pub front_told : (len e : ℕ) (o : Option Item) → ok ≡ true → i.primed ≡ true → i.channels.entries ≤ len → (e ≡ 0 → ⊥) → e ≤ i.channels.count → Oldest (e - 1) o
       → Ok o ≡ reply (refusal chip.net c (front e len)) (front_item chip c e)
   front_told len e o sure p le ne high old =
       ap (λ (z : Option Item). Ok z) (oldest_is e o sure (omega (arith, ne)) old)

@@ -13,7 +13,7 @@ use Rattle.queues.specs.Stands.{Stands, items}
 use Rattle.queues.specs.Strict.{Chip}
 use Rattle.queues.proofs.Turns.{flows_ext}
 use Rattle.run.specs.declared.inner.Inner.{Inner}
-use Rattle.run.specs.Told.{Told, Lists, Framed, Planned, Judged}
+use Rattle.run.specs.Told.{Told, Counts, Framed, Planned, Judged, state_at}
 
 -- with another count of what was put, where they agree
 pub stands_put : {Item State : Type 0} (ok : Bool) (before : List Item) (chip : Chip Item State) (f p p' : ℕ → ℕ) (w : Channels) (r : Rules Item State) (h : ℕ → State) (t : List Item) → ((e : ℕ) → p e ≡ p' e)
@@ -106,19 +106,19 @@ module _ {Item State : Type 0} (ok : Bool) (before : List Item) (chip : Chip Ite
 
   pub told_step : (len : ℕ) (i₁ i₂ : Inner) (r₁ : Rules Item State) (h₁ : ℕ → State) (t₁ : List Item) → Framed i₁ i
       → Stands ok before chip (more c.firings (fires chip.net c.marks c.firings)) (puts chip.net (more c.firings (fires chip.net c.marks c.firings))) i₁.channels r₁ h₁ t₁
-      × Lists i₁.modules i₁.firings 0 (more c.firings (fires chip.net c.marks c.firings))
-      → i₂.modules ≡ i₁.modules → i₂.entries ≡ i₁.entries → i₂.blocks ≡ i₁.blocks → i₂.channels ≡ i₁.channels → i₂.firings ≡ i₁.firings → i₂.primed ≡ i₁.primed
-      → i₂.steps ≡ i₁.steps + 1 → ((k : ℕ) → get_or i₂.marks k false ≡ false)
+      × Counts i₁.modules i₁ (more c.firings (fires chip.net c.marks c.firings))
+      → i₂.modules ≡ i₁.modules → i₂.blocks ≡ i₁.blocks → i₂.channels ≡ i₁.channels → ((k : ℕ) → (state_at i₂ k).firings ≡ (state_at i₁ k).firings) → i₂.primed ≡ i₁.primed
+      → i₂.steps ≡ i₁.steps + 1 → ((k : ℕ) → (state_at i₂ k).marked ≡ false)
       → Told ok before chip (done chip.net c (step len)) i₂ r₁ h₁ t₁
-  told_step len i₁ i₂ r₁ h₁ t₁ fr out em ee eb ew ef ep es clear =
+  told_step len i₁ i₂ r₁ h₁ t₁ fr out em eb ew ef ep es clear =
       let f' = more c.firings (fires chip.net c.marks c.firings) in
       record {
         stands = stands_put ok before chip f' (puts chip.net f') (put chip.net (done chip.net c (step len))) i₂.channels r₁ h₁ t₁ (λ e. sym (put_primed f' e))
             (subst (λ (w : Channels). Stands ok before chip f' (puts chip.net f') w r₁ h₁ t₁) (sym ew) out.0);
         modules = em ∙ fr.modules ∙ td.modules;
-        entries = ee ∙ fr.entries ∙ td.entries;
+        entries = ap (λ (w : Channels). w.entries) ew ∙ fr.entries ∙ td.entries;
         blocks = λ k lt. ap (λ xs. get_or xs k false) (eb ∙ fr.blocks) ∙ td.blocks k (omega (arith, em, fr.modules));
-        firings = λ k lt. ap (λ xs. get_or xs k 0) ef ∙ out.1 k (omega (arith, em));
+        firings = λ k lt. ef k ∙ out.1 k (omega (arith, em));
         marks = λ k lt. clear k;
         primed = ep ∙ fr.primed ∙ td.primed;
         steps = es ∙ ap (λ n. n + 1) (fr.steps ∙ td.steps);

@@ -35,10 +35,10 @@ module _ {Item State : Type 0} (ok : Bool) (before : List Item) (chip : Chip Ite
   told_counts before' t' = with_flows false before' t' (flows_counts i.channels t ok before took (put chip.net c) (items chip) td.stands.flows before' t') (λ y. absurd (false≢true y))
 
   -- another table with the same entries in the channels' parts, and behind them those it had at first
-  pub told_alike : (before' t' : List Item) → ((k : ℕ) (d : Item) → k < i.entries → get_or t' k d ≡ get_or t k d) → ((k : ℕ) (d : Item) → k < i.entries → get_or before' k d ≡ get_or before k d)
-      → ((k : ℕ) (d : Item) → i.entries ≤ k → get_or t' k d ≡ get_or before' k d) → Told ok before' chip c i r h t'
+  pub told_alike : (before' t' : List Item) → ((k : ℕ) (d : Item) → k < i.channels.entries → get_or t' k d ≡ get_or t k d) → ((k : ℕ) (d : Item) → k < i.channels.entries → get_or before' k d ≡ get_or before k d)
+      → ((k : ℕ) (d : Item) → i.channels.entries ≤ k → get_or t' k d ≡ get_or before' k d) → Told ok before' chip c i r h t'
   told_alike before' t' same same_before behind =
       with_flows ok before' t'
-      (flows_alike i.channels t ok before took (put chip.net c) (items chip) td.stands.flows before' t' i.entries
-      (laid_of i.channels i.entries i.entries i.count_high i.sounds i.apart (omega arith)) same same_before behind)
+      (flows_alike i.channels t ok before took (put chip.net c) (items chip) td.stands.flows before' t' i.channels.entries
+      (laid_of i.channels i.channels.entries (omega arith)) same same_before behind)
       td.stands.states

@@ -6,7 +6,7 @@ use Rattle.netlist.specs.declared.netlist.Netlist.{Netlist}
 use Rattle.counts.specs.Nets.{net_of}
 use Rattle.counts.specs.Origins.{base}
 use Rattle.queues.specs.declared.queue.Queue.{Queue}
-use Rattle.queues.specs.Flows.{blank}
+use Rattle.queues.specs.Parts.{blank}
 use Rattle.queues.specs.Strict.{Chip}
 
 -- a netlist under a sizing, with cores that have these rules and at first these states

@@ -5,6 +5,7 @@
 mod inner;
 mod judge;
 mod make;
+mod refuse;
 mod run;
 
 pub use run::Run;

@@ -1,7 +1,6 @@
 ghost use Rattle.std.specs.Prelude.{◌≡◌, ℕ, ◌-◌, ◌<◌, ◌≤◌, Bool, true, false, List, length, OnErr};
 ghost use Rattle.calls.specs.Calls.{Call, Count, at_first, done, refusal};
 ghost use Rattle.counts.specs.Origins.{puts};
-ghost use Rattle.netlist.specs.declared.refusal.Cause.TheVariants.{ItemsTooShort};
 ghost use Rattle.queues.specs.Flows.{more};
 ghost use Rattle.queues.specs.Stands.{Stands};
 ghost use Rattle.queues.specs.Strict.{Chip};
@@ -10,10 +9,12 @@ ghost use Rattle.calls.specs.Calls.{fill_of};
 ghost use Rattle.run.specs.Making.{chip_of};
 ghost use Rattle.run.specs.Replies.{front_item, left_by, reply};
 ghost use Rattle.run.specs.Tells.{Tells};
-ghost use Rattle.run.specs.Told.{Framed, Lists, Planned};
+ghost use Rattle.run.specs.Told.{Counts, Framed, Planned};
 
-use crate::inner::Inner;
+use crate::inner::{Inner, ModuleState};
+use crate::judge::unmark;
 use crate::make::{blocks_of, lay};
+use crate::refuse::place;
 use cores::{CoreSet, Number};
 use netlist::{Cause, Refusal};
 use queues::{fire, start};
@@ -29,23 +30,6 @@ pub struct Run<C> {
     inner: Inner,
 }
 
-// A refusal that names no place.
-fn refused(cause: Cause) -> Refusal
-    ensures { result ≡ record { cause = cause; place = 0 } }
-{
-    Refusal { cause, place: 0 }
-}
-
-// The refusal of an item table with fewer entries than these.
-fn too_short(entries: u16) -> Refusal
-    ensures { result ≡ record { cause = ItemsTooShort; place = entries } }
-{
-    Refusal {
-        cause: Cause::ItemsTooShort,
-        place: entries as usize,
-    }
-}
-
 impl<C: CoreSet> Run<C> {
     /// Makes a run. It copies what it needs of the rating.
     pub fn new(rating: Rating, cores: C) -> Run<C>
@@ -53,16 +37,17 @@ impl<C: CoreSet> Run<C> {
         ensures { (table : List C.Item) → Tells true C.CoreSet.rules C.CoreSet.held (chip_of rating.entry.netlist.now rating.entry.sizing.now (C.CoreSet.rules cores) (C.CoreSet.held cores)) at_first table result table }
     {
         let netlist = rating.netlist();
-        let (channels, entries) = lay(netlist.channels(), rating.sizing());
+        let channels = lay(netlist.channels(), rating.sizing());
         Run {
             cores,
             inner: Inner {
                 modules: netlist.modules().len() as u8,
-                entries,
                 blocks: blocks_of(netlist),
                 channels,
-                firings: [0; 64],
-                marks: [false; 64],
+                states: [ModuleState {
+                    firings: 0,
+                    marked: false,
+                }; 64],
                 primed: false,
                 steps: 0,
             },
@@ -75,11 +60,9 @@ impl<C: CoreSet> Run<C> {
         ensures refused { OnErr result ((self.new ≡ self.old) × (table.new ≡ table.old)) }
     {
         if self.inner.primed {
-            return Err(refused(Cause::OutOfTurn));
+            return Err(Cause::OutOfTurn.into());
         }
-        if table.len() < self.inner.entries as usize {
-            return Err(too_short(self.inner.entries));
-        }
+        self.inner.room(table.len())?;
         start(
             &mut self.inner.channels,
             &self.cores,
@@ -95,28 +78,24 @@ impl<C: CoreSet> Run<C> {
         ensures told { (ok : Bool) (chip : Chip C.Item C.State) (c : Count) (before table : List C.Item) → Tells ok C.CoreSet.rules C.CoreSet.held chip c before self.old table → (result ≡ reply (refusal chip.net c (Call.hold v)) tt) × Tells ok C.CoreSet.rules C.CoreSet.held chip (left_by result c (done chip.net c (Call.hold v))) before self.new table }
         ensures refused { OnErr result (self.new ≡ self.old) }
     {
-        if !self.inner.primed {
-            return Err(refused(Cause::OutOfTurn));
-        }
-        if v == 0 || v > self.inner.modules {
-            return Err(refused(Cause::NumberOutOfRange));
-        }
-        self.inner.marks[v as usize - 1] = true;
+        self.inner.after_prime()?;
+        let k = place(v, self.inner.modules)?;
+        self.inner.states[k].marked = true;
         Ok(())
     }
 
-    // Fires each module that is named, one after another: what the others do leaves a module that may fire able to.
+    // Fires each module that is named, one after another: what the others do leaves a module that may fire able to. `firing` is as `judge` made it.
     fn fire_all(&mut self, firing: &[bool; 64], table: &mut [C::Item])
-        requires { self.old.inner.entries ≤ length table.old }
+        requires { self.old.inner.channels.entries ≤ length table.old }
         ensures framed { Framed self.new.inner self.old.inner }
-        ensures told { (ok : Bool) (before : List C.Item) (chip : Chip C.Item C.State) (firings : ℕ → ℕ) (go : ℕ → Bool) → Planned ok before chip firings go self.old.inner (C.CoreSet.rules self.old.cores) (C.CoreSet.held self.old.cores) table.old firing.now → Stands ok before chip (more firings go) (puts chip.net (more firings go)) self.new.inner.channels (C.CoreSet.rules self.new.cores) (C.CoreSet.held self.new.cores) table.new × Lists self.new.inner.modules self.new.inner.firings 0 (more firings go) }
+        ensures told { (ok : Bool) (before : List C.Item) (chip : Chip C.Item C.State) (firings : ℕ → ℕ) (go : ℕ → Bool) → Planned ok before chip firings go self.old.inner (C.CoreSet.rules self.old.cores) (C.CoreSet.held self.old.cores) table.old firing.now → Stands ok before chip (more firings go) (puts chip.net (more firings go)) self.new.inner.channels (C.CoreSet.rules self.new.cores) (C.CoreSet.held self.new.cores) table.new × Counts self.new.inner.modules self.new.inner (more firings go) }
     {
-        for i in 0..self.inner.modules as usize {
-            if firing[i] {
+        for (i, fires) in firing[..self.inner.modules as usize].iter().enumerate() {
+            if *fires {
                 if let Some(v) = Number::new(i as u8 + 1) {
                     let block = self.inner.blocks[i];
                     fire(&mut self.inner.channels, &mut self.cores, v, block, table);
-                    self.inner.firings[i] = self.inner.firings[i].wrapping_add(1);
+                    self.inner.states[i].firings = self.inner.states[i].firings.wrapping_add(1);
                 }
             }
         }
@@ -127,18 +106,14 @@ impl<C: CoreSet> Run<C> {
         ensures told { (ok : Bool) (chip : Chip C.Item C.State) (c : Count) (before : List C.Item) → Tells ok C.CoreSet.rules C.CoreSet.held chip c before self.old table.old → (result ≡ reply (refusal chip.net c (Call.step (length table.old))) tt) × Tells ok C.CoreSet.rules C.CoreSet.held chip (left_by result c (done chip.net c (Call.step (length table.old)))) before self.new table.new }
         ensures refused { OnErr result ((self.new ≡ self.old) × (table.new ≡ table.old)) }
     {
-        if !self.inner.primed {
-            return Err(refused(Cause::OutOfTurn));
-        }
-        if table.len() < self.inner.entries as usize {
-            return Err(too_short(self.inner.entries));
-        }
+        self.inner.after_prime()?;
+        self.inner.room(table.len())?;
         if self.inner.steps >= STEPS {
-            return Err(refused(Cause::BeyondLimit));
+            return Err(Cause::BeyondLimit.into());
         }
         let firing = self.inner.judge();
         self.fire_all(&firing, table);
-        self.inner.marks = [false; 64];
+        unmark(&mut self.inner.states);
         self.inner.steps += 1;
         Ok(())
     }
@@ -147,37 +122,27 @@ impl<C: CoreSet> Run<C> {
     pub fn firings(&self, v: u8) -> Result<u32, Refusal>
         ensures { (ok : Bool) (chip : Chip C.Item C.State) (c : Count) (before table : List C.Item) → Tells ok C.CoreSet.rules C.CoreSet.held chip c before self.now table → result ≡ reply (refusal chip.net c (Call.firings v)) (c.firings v) }
     {
-        if v == 0 || v > self.inner.modules {
-            return Err(refused(Cause::NumberOutOfRange));
-        }
-        Ok(self.inner.firings[v as usize - 1])
+        let k = place(v, self.inner.modules)?;
+        Ok(self.inner.states[k].firings)
     }
 
     /// How many items a channel has.
     pub fn fill(&self, channel: u8) -> Result<u8, Refusal>
         ensures { (ok : Bool) (chip : Chip C.Item C.State) (c : Count) (before table : List C.Item) → Tells ok C.CoreSet.rules C.CoreSet.held chip c before self.now table → result ≡ reply (refusal chip.net c (Call.fill channel)) (fill_of chip.net c (channel - 1)) }
     {
-        if channel == 0 || channel > self.inner.channels.count {
-            return Err(refused(Cause::NumberOutOfRange));
-        }
-        Ok(self.inner.channels.queues[channel as usize - 1].fill)
+        let e = place(channel, self.inner.channels.count)?;
+        Ok(self.inner.channels.queues[e].fill)
     }
 
     /// The oldest item of a channel, if it has one.
     pub fn front(&self, channel: u8, table: &[C::Item]) -> Result<Option<C::Item>, Refusal>
         ensures told { (chip : Chip C.Item C.State) (c : Count) (before : List C.Item) → Tells true C.CoreSet.rules C.CoreSet.held chip c before self.now table.now → result ≡ reply (refusal chip.net c (Call.front channel (length table.now))) (front_item chip c channel) }
-        ensures short { (ok : Bool) (chip : Chip C.Item C.State) (c : Count) (before whole : List C.Item) → Tells ok C.CoreSet.rules C.CoreSet.held chip c before self.now whole → length table.now < self.now.inner.entries → result ≡ reply (refusal chip.net c (Call.front channel (length table.now))) (front_item chip c channel) }
+        ensures short { (ok : Bool) (chip : Chip C.Item C.State) (c : Count) (before whole : List C.Item) → Tells ok C.CoreSet.rules C.CoreSet.held chip c before self.now whole → length table.now < self.now.inner.channels.entries → result ≡ reply (refusal chip.net c (Call.front channel (length table.now))) (front_item chip c channel) }
     {
-        if !self.inner.primed {
-            return Err(refused(Cause::OutOfTurn));
-        }
-        if channel == 0 || channel > self.inner.channels.count {
-            return Err(refused(Cause::NumberOutOfRange));
-        }
-        if table.len() < self.inner.entries as usize {
-            return Err(too_short(self.inner.entries));
-        }
-        let queue = self.inner.channels.queues[channel as usize - 1];
+        self.inner.after_prime()?;
+        let e = place(channel, self.inner.channels.count)?;
+        self.inner.room(table.len())?;
+        let queue = self.inner.channels.queues[e];
         Ok(queue.front(table))
     }
 

@@ -1,10 +1,9 @@
 // A case: a netlist under a sizing, a list of requests and an item table, played over a set of cores.
-use crate::marks::{Mark, mix};
+use crate::marks::{Mark, mix, mixed};
 use checking::check;
 use cores::{CoreSet, Number};
-use drafts::Shape;
-use netlist::{Netlist, read};
-use play::{Answer, Exchange, Request, play};
+use drafts::{Shape, netlist_of};
+use play::{Answer, Exchange, Reply, Request, play};
 use rating::rate;
 use std::alloc::{AllocError, Global};
 
@@ -12,7 +11,7 @@ use std::alloc::{AllocError, Global};
 pub struct Case<'a, 'b, 'c> {
     pub shape: Shape<'a>,
     pub sizing: &'b [u8],
-    pub entries: usize,
+    pub entries: u32,
     pub requests: &'c [Request],
 }
 
@@ -26,24 +25,10 @@ pub struct Outcome<T, S> {
 
 // The requests, unanswered.
 fn opened<T: Copy>(heap: Global, requests: &[Request]) -> Result<Vec<Exchange<T>>, AllocError> {
-    let mut list = Vec::new(heap);
-    for request in requests {
-        list.push(Exchange {
-            request: *request,
-            answer: Answer::Open,
-        })?;
-    }
-    Ok(list)
-}
-
-fn fresh_table<T: Mark>(heap: Global, entries: usize) -> Result<Vec<T>, AllocError> {
-    let mut table = Vec::new(heap);
-    let mut index: u32 = 0;
-    for _ in 0..entries {
-        table.push(T::fresh(index))?;
-        index = index.wrapping_add(1);
-    }
-    Ok(table)
+    requests
+        .iter()
+        .map(|request| Exchange::new(*request))
+        .collect(heap)
 }
 
 // Plays a list of exchanges on a netlist file. Where the file, the netlist or the sizing is refused, nothing is answered.
@@ -55,10 +40,7 @@ fn play_file<C: CoreSet>(
     exchanges: &mut [Exchange<C::Item>],
     table: &mut [C::Item],
 ) -> C {
-    let Ok(mut netlist) = Netlist::new(heap) else {
-        return cores;
-    };
-    let Ok(()) = read(heap, file, &mut netlist, &mut [0; 192]) else {
+    let Ok(netlist) = netlist_of(heap, file) else {
         return cores;
     };
     let Ok(checked) = check(&netlist) else {
@@ -78,13 +60,10 @@ fn states_of<C: CoreSet>(
     cores: &C,
     modules: u8,
 ) -> Result<Vec<C::State>, AllocError> {
-    let mut states = Vec::new(heap);
-    for v in 0..modules {
-        if let Some(number) = Number::new(v.wrapping_add(1)) {
-            states.push(cores.state(number))?;
-        }
-    }
-    Ok(states)
+    (1..=modules)
+        .filter_map(Number::new)
+        .map(|number| cores.state(number))
+        .collect(heap)
 }
 
 impl Case<'_, '_, '_> {
@@ -98,7 +77,9 @@ impl Case<'_, '_, '_> {
     {
         let file = self.shape.file(heap)?;
         let mut exchanges = opened(heap, self.requests)?;
-        let mut table = fresh_table(heap, self.entries)?;
+        let mut table: Vec<C::Item> = (0..self.entries)
+            .map(|index| C::Item::fresh(index))
+            .collect(heap)?;
         let cores = play_file(
             heap,
             file.as_slice(),
@@ -116,14 +97,15 @@ impl Case<'_, '_, '_> {
     }
 }
 
-fn answer_text<T: Mark>(heap: Global, answer: Answer<T>) -> Result<String, AllocError> {
+// Not by Display of the reply, whose words are others and which asks for a Display of the item.
+fn answer_text<T: Mark>(heap: Global, answer: Option<Answer<T>>) -> Result<String, AllocError> {
     match answer {
-        Answer::Open => format!(in heap; "open"),
-        Answer::Done => format!(in heap; "ok"),
-        Answer::Number(n) => format!(in heap; "{n}"),
-        Answer::Item(item) => item.text(heap),
-        Answer::Empty => format!(in heap; "-"),
-        Answer::Refused(why) => {
+        None => format!(in heap; "open"),
+        Some(Ok(Reply::Done)) => format!(in heap; "ok"),
+        Some(Ok(Reply::Number(n))) => format!(in heap; "{n}"),
+        Some(Ok(Reply::Item(Some(item)))) => item.text(heap),
+        Some(Ok(Reply::Item(None))) => format!(in heap; "-"),
+        Some(Err(why)) => {
             let number = why.cause.number();
             let place = why.place;
             format!(in heap; "r{number}@{place}")
@@ -131,14 +113,14 @@ fn answer_text<T: Mark>(heap: Global, answer: Answer<T>) -> Result<String, Alloc
     }
 }
 
-fn answer_mixed<T: Mark>(sum: u32, answer: Answer<T>) -> u32 {
+fn answer_mixed<T: Mark>(sum: u32, answer: Option<Answer<T>>) -> u32 {
     match answer {
-        Answer::Open => mix(sum, 0),
-        Answer::Done => mix(sum, 1),
-        Answer::Number(n) => mix(mix(sum, 2), n),
-        Answer::Item(item) => item.mixed(mix(sum, 3)),
-        Answer::Empty => mix(sum, 4),
-        Answer::Refused(why) => {
+        None => mix(sum, 0),
+        Some(Ok(Reply::Done)) => mix(sum, 1),
+        Some(Ok(Reply::Number(n))) => mix(mix(sum, 2), n),
+        Some(Ok(Reply::Item(Some(item)))) => item.mixed(mix(sum, 3)),
+        Some(Ok(Reply::Item(None))) => mix(sum, 4),
+        Some(Err(why)) => {
             let place = (why.place % 65536) as u32;
             mix(mix(mix(sum, 5), u32::from(why.cause.number())), place)
         }
@@ -148,8 +130,7 @@ fn answer_mixed<T: Mark>(sum: u32, answer: Answer<T>) -> u32 {
 fn add<T: Mark>(heap: Global, text: &mut String, list: &[T]) -> Result<(), AllocError> {
     for item in list {
         let word = item.text(heap)?;
-        text.push_str(" ")?;
-        text.push_str(word.as_str())?;
+        write!(text, " {word}")?;
     }
     Ok(())
 }
@@ -160,8 +141,7 @@ impl<T: Mark, S: Mark> Outcome<T, S> {
         let mut text = String::new(heap);
         for exchange in self.exchanges.as_slice() {
             let word = answer_text(heap, exchange.answer)?;
-            text.push_str(" ")?;
-            text.push_str(word.as_str())?;
+            write!(text, " {word}")?;
         }
         text.push_str("; states")?;
         add(heap, &mut text, self.states.as_slice())?;
@@ -172,22 +152,14 @@ impl<T: Mark, S: Mark> Outcome<T, S> {
 
     // Three sums: of the answers, the states and the entries.
     pub fn sums(&self) -> (u32, u32, u32) {
-        let mut answers = 0;
-        for exchange in self.exchanges.as_slice() {
-            answers = answer_mixed(answers, exchange.answer);
-        }
+        let answers = self
+            .exchanges
+            .iter()
+            .fold(0, |sum, exchange| answer_mixed(sum, exchange.answer));
         (
             answers,
             mixed(self.states.as_slice()),
             mixed(self.table.as_slice()),
         )
     }
-}
-
-fn mixed<T: Mark>(list: &[T]) -> u32 {
-    let mut sum = 0;
-    for item in list {
-        sum = item.mixed(sum);
-    }
-    sum
 }

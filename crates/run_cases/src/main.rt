@@ -12,8 +12,9 @@ use crate::long_run::long;
 use crate::marks::Mark;
 use crate::random::Random;
 use cores::{OriginSet, SumSet};
-use drafts::{Shape, chain};
-use play::{Answer, Request};
+use drafts::{ALONE, DIAMOND, ITSELF, PAIR, Shape, TRIANGLE, chain};
+use play::{Exchange, Reply, Request};
+use std::alloc::{AllocError, Global};
 
 const ALL: usize = usize::MAX;
 
@@ -44,23 +45,9 @@ fn front(channel: u8) -> Request {
     Request::Front { channel, lent: ALL }
 }
 
-// Two blocks, and relay station 3 on the way from 1 to 2 beside a channel.
-const F: Shape<'static> = Shape {
-    modules: 3,
-    blocks: 2,
-    channels: &[(1, 3), (3, 2), (1, 2)],
-};
-
-// Blocks 1 to 3, and relay station 4 on one of two ways from 1 to 3.
-const DIAMOND: Shape<'static> = Shape {
-    modules: 4,
-    blocks: 3,
-    channels: &[(1, 2), (2, 3), (1, 4), (4, 3)],
-};
-
 fn sample(rt: &HostRuntime) -> anyhow::Result<()> {
     let case = Case {
-        shape: F,
+        shape: TRIANGLE,
         sizing: &[1; 3],
         entries: 8,
         requests: &[
@@ -82,8 +69,46 @@ fn sample(rt: &HostRuntime) -> anyhow::Result<()> {
     show(rt, "F after 3 steps", case)
 }
 
-// Prints how many items each module of D has produced at first and after each step: its firings, and 1 for a block. Module 1 may be held in
-// the first step.
+const FIRINGS: [Request; 4] = [
+    Request::Firings(1),
+    Request::Firings(2),
+    Request::Firings(3),
+    Request::Firings(4),
+];
+
+// The firings of each module of D at first and after each step. Module 1 may be held in the first step.
+fn watched(heap: Global, held: bool, steps: usize) -> Result<Vec<Request>, AllocError> {
+    let mut requests = Vec::new(heap);
+    requests.push(PRIME)?;
+    if held {
+        requests.push(Request::Hold(1))?;
+    }
+    requests.extend_from_slice(&FIRINGS)?;
+    for _ in 1..steps {
+        requests.push(STEP)?;
+        requests.extend_from_slice(&FIRINGS)?;
+    }
+    Ok(requests)
+}
+
+// How many items a module has produced each time that it was asked: its firings, and so many at first.
+fn add_produced(
+    text: &mut String,
+    exchanges: &[Exchange<u32>],
+    module: u8,
+    first: u32,
+) -> Result<(), AllocError> {
+    for exchange in exchanges {
+        if let Some(Ok(Reply::Number(n))) = exchange.answer {
+            if exchange.request == Request::Firings(module) {
+                write!(text, " {}", n.wrapping_add(first))?;
+            }
+        }
+    }
+    Ok(())
+}
+
+// Prints how many items each module of D has produced, of which each block has 1 at first.
 fn produced(
     rt: &HostRuntime,
     label: &str,
@@ -91,22 +116,7 @@ fn produced(
     held: bool,
     steps: usize,
 ) -> anyhow::Result<()> {
-    let mut requests = Vec::new(rt.alloc());
-    requests.push(PRIME)?;
-    if held {
-        requests.push(Request::Hold(1))?;
-    }
-    for at in 0..steps {
-        if at > 0 {
-            requests.push(STEP)?;
-        }
-        requests.extend_from_slice(&[
-            Request::Firings(1),
-            Request::Firings(2),
-            Request::Firings(3),
-            Request::Firings(4),
-        ])?;
-    }
+    let requests = watched(rt.alloc(), held, steps)?;
     let case = Case {
         shape: DIAMOND,
         sizing,
@@ -114,22 +124,13 @@ fn produced(
         requests: requests.as_slice(),
     };
     let outcome = case.outcome(rt.alloc(), SumSet::new())?;
+    let exchanges = outcome.exchanges.as_slice();
     let mut text = String::new(rt.alloc());
-    for v in 1..5u8 {
-        let first = if v < 4 { 1 } else { 0 };
-        for exchange in outcome.exchanges.as_slice() {
-            if let (Request::Firings(w), Answer::Number(n)) = (exchange.request, exchange.answer) {
-                if w == v {
-                    let count = n.wrapping_add(first);
-                    let word = format!(in rt.alloc(); " {count}")?;
-                    text.push_str(word.as_str())?;
-                }
-            }
-        }
-        if v < 4 {
-            text.push_str(" /")?;
-        }
+    for block in 1..=3 {
+        add_produced(&mut text, exchanges, block, 1)?;
+        text.push_str(" /")?;
     }
+    add_produced(&mut text, exchanges, 4, 0)?;
     println!(rt; "{label}:{text}")?;
     Ok(())
 }
@@ -175,7 +176,7 @@ fn eight(
     label: &str,
     shape: Shape<'_>,
     sizing: &[u8],
-    entries: usize,
+    entries: u32,
 ) -> anyhow::Result<()> {
     let case = Case {
         shape,
@@ -187,36 +188,22 @@ fn eight(
 }
 
 fn small(rt: &HostRuntime) -> anyhow::Result<()> {
-    let alone = Shape {
-        modules: 1,
-        blocks: 1,
-        channels: &[],
-    };
-    eight(rt, "one block, no table", alone, &[], 0)?;
-    let itself = Shape {
-        channels: &[(1, 1)],
-        ..alone
-    };
-    eight(rt, "one block to itself", itself, &[1], 2)?;
+    eight(rt, "one block, no table", ALONE, &[], 0)?;
+    eight(rt, "one block to itself", ITSELF, &[1], 2)?;
     let twice = Shape {
         channels: &[(1, 1), (1, 1)],
-        ..alone
+        ..ALONE
     };
     eight(rt, "one block twice to itself", twice, &[1, 3], 6)?;
-    let pair = Shape {
-        modules: 2,
-        blocks: 2,
-        channels: &[(1, 2)],
-    };
-    eight(rt, "without inputs to without outputs", pair, &[2], 4)?;
+    eight(rt, "without inputs to without outputs", PAIR, &[2], 4)?;
     let parallel = Shape {
         channels: &[(1, 2), (1, 2), (1, 2)],
-        ..pair
+        ..PAIR
     };
     eight(rt, "three side by side", parallel, &[1, 2, 16], 22)?;
     let around = Shape {
         channels: &[(1, 2), (2, 1), (2, 2)],
-        ..pair
+        ..PAIR
     };
     eight(rt, "there and back", around, &[1, 1, 1], 6)?;
     let relayed = Shape {
@@ -293,24 +280,17 @@ fn refused(rt: &HostRuntime) -> anyhow::Result<()> {
 // The full tables: 192 channels of queue 16 but for the last, which sets the rate.
 fn full(rt: &HostRuntime) -> anyhow::Result<()> {
     let channels = chain(rt.alloc())?;
-    let shape = Shape {
-        modules: 64,
-        blocks: 62,
-        channels: channels.as_slice(),
-    };
+    let shape = Shape::full(62, channels.as_slice());
     let mut requests = Vec::new(rt.alloc());
     requests.push(PRIME)?;
-    for _ in 0..200 {
-        requests.push(STEP)?;
-    }
-    for e in 0..192u8 {
-        requests.push(Request::Fill(e + 1))?;
-        requests.push(front(e + 1))?;
+    requests.extend_from_slice(&[STEP; 200])?;
+    for channel in 1..=192 {
+        requests.extend_from_slice(&[Request::Fill(channel), front(channel)])?;
     }
     for last in [1, 2, 16] {
         let mut sizing = [16; 192];
         sizing[191] = last;
-        let entries = 3248 + usize::from(last);
+        let entries = 3248 + u32::from(last);
         for less in [0, 1] {
             let case = Case {
                 shape,
@@ -322,11 +302,10 @@ fn full(rt: &HostRuntime) -> anyhow::Result<()> {
             show_sums(rt, label.as_str(), case)?;
         }
         let stand = long(rt.alloc(), shape, &sizing, 20_000)?;
-        let steps = stand.steps;
-        let first = stand.first;
-        let end = stand.last;
-        let table = stand.table;
-        println!(rt; "chain, queue {last} at the end, long: {steps} {first} {end} {table}")?;
+        println!(rt;
+            "chain, queue {last} at the end, long: {} {} {} {}",
+            stand.steps, stand.first, stand.last, stand.table
+        )?;
     }
     Ok(())
 }
@@ -340,15 +319,11 @@ fn random_netlists(rt: &HostRuntime) -> anyhow::Result<()> {
     Ok(())
 }
 
-fn run(rt: &HostRuntime) -> anyhow::Result<()> {
-    sample(rt)?;
-    traces(rt)?;
-    small(rt)?;
-    refused(rt)?;
-    full(rt)?;
-    random_netlists(rt)
-}
-
 fn main(rt: HostRuntime) -> anyhow::Result<()> {
-    run(&rt)
+    sample(&rt)?;
+    traces(&rt)?;
+    small(&rt)?;
+    refused(&rt)?;
+    full(&rt)?;
+    random_netlists(&rt)
 }

@@ -7,6 +7,7 @@ pub fn mix(sum: u32, number: u32) -> u32 {
     (sum ^ number).wrapping_mul(16_777_619)
 }
 
+// A method and no Display, since the types are those of other crates: a wrapper for each would be longer than the method.
 pub trait Mark: Copy {
     // What an entry of the item table holds at first.
     fn fresh(index: u32) -> Self;
@@ -43,9 +44,7 @@ impl Mark for Origin {
     }
 
     fn text(self, heap: Global) -> Result<String, AllocError> {
-        let module = self.module;
-        let serial = self.serial;
-        format!(in heap; "{module}.{serial}")
+        format!(in heap; "{}.{}", self.module, self.serial)
     }
 }
 
@@ -62,8 +61,12 @@ impl Mark for OriginState {
     }
 
     fn text(self, heap: Global) -> Result<String, AllocError> {
-        let emits = self.emits;
         let last = self.last.text(heap)?;
-        format!(in heap; "{emits}<{last}")
+        format!(in heap; "{}<{last}", self.emits)
     }
+}
+
+// A sum of all items of a list.
+pub fn mixed<T: Mark>(list: &[T]) -> u32 {
+    list.iter().fold(0, |sum, item| item.mixed(sum))
 }

@@ -60,7 +60,7 @@ pub struct Random {
     channels: Vec<(u8, u8)>,
     sizing: Vec<u8>,
     requests: Vec<Request>,
-    entries: usize,
+    entries: u32,
 }
 
 // Each block but the first is fed by a block before it and each relay station by a module before it, and feeds a block; then some
@@ -96,22 +96,18 @@ impl Random {
         let modules = dice.byte(8).saturating_add(1);
         let blocks = dice.byte(modules).saturating_add(1);
         let list = channels(heap, &mut dice, modules, blocks)?;
-        let mut sizing = Vec::new(heap);
-        let mut entries = dice.below(3) as usize;
-        for _ in 0..list.len() {
-            let size = dice.byte(4).saturating_add(1);
-            entries = entries.saturating_add(usize::from(size)).saturating_add(1);
-            sizing.push(size)?;
-        }
+        let spare = dice.below(3);
+        let sizing: Vec<u8> = list
+            .iter()
+            .map(|_| dice.byte(4).saturating_add(1))
+            .collect(heap)?;
+        let entries = sizing.iter().fold(spare, |sum, size| {
+            sum.saturating_add(u32::from(*size)).saturating_add(1)
+        });
         let few = (list.len() % 256) as u8;
-        let mut requests = Vec::new(heap);
-        for number in 0..60 {
-            let request = dice.request(modules, few);
-            if number == 3 {
-                requests.push(Request::Prime { lent: usize::MAX })?;
-            } else {
-                requests.push(request)?;
-            }
+        let mut requests: Vec<Request> = (0..60).map(|_| dice.request(modules, few)).collect(heap)?;
+        if let Some(fourth) = requests.get_mut(3) {
+            *fourth = Request::Prime { lent: usize::MAX };
         }
         Ok(Random {
             modules,

@@ -20,9 +20,7 @@ impl Scale for Total {
     }
 
     fn choice(self, other: Total) -> Total {
-        Total {
-            sum: self.sum.min(other.sum),
-        }
+        self.min(other)
     }
 
     // The sum stops at no way: a walk that cannot be made stays so, whatever follows.

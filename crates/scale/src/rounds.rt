@@ -10,9 +10,8 @@ use crate::scale::Scale;
 fn clear<S: Scale>(next: &mut [S])
     ensures { (v : ℕ) → v < length next.old → element S.scale next.new v ≡ S.scale.no_way }
 {
-    for arrived in next.iter_mut() {
-        *arrived = S::no_way();
-    }
+    let none = S::no_way();
+    next.fill_with(|| none);
 }
 
 // Adds the moves out of one module, whose element is `from`; `row` has the weight of the move to each module. A row of the table
@@ -21,6 +20,7 @@ fn depart<S: Scale>(from: S, row: &[S], next: &mut [S])
     requires { length row.now ≡ length next.old }
     ensures { (v : ℕ) → v < length next.old → element S.scale next.new v ≡ S.scale.choice (element S.scale next.old v) (S.scale.extension from (element S.scale row.now v)) }
 {
+    // No `zip` over `iter_mut`: of what is written through it a proof knows nothing; `enumerate` it knows.
     for (v, arrived) in next.iter_mut().enumerate() {
         *arrived = arrived.choice(from.extension(row[v]));
     }
@@ -32,14 +32,18 @@ fn advance<S: Scale>(elements: &[S], weights: &[S], next: &mut [S])
     ensures { (v : ℕ) → v < length elements.now → element S.scale next.new v ≡ arrival S.scale elements.now weights.now v }
 {
     clear(next);
-    let n = elements.len();
-    for u in 0..n {
-        let row = u * n;
-        depart(elements[u], &weights[row..row + n], next);
+    // No `zip` of the elements with `weights.chunks_exact(elements.len())`: it asks for a length above 0, so a branch for no modules
+    // would come first.
+    let mut rows = weights;
+    for from in elements {
+        let (row, rest) = rows.split_at(elements.len());
+        depart(*from, row, next);
+        rows = rest;
     }
 }
 
-// One round: each module takes what comes to it by one move.
+// One round: each module takes what comes to it by one move. A function of its own: with its body written in the loop of `rounds`, a
+// million rounds of 64 modules took a fifth longer.
 fn round<S: Scale>(elements: &mut [S], scratch: &mut [S], weights: &[S])
     requires { Fitting elements.old scratch.old weights.now }
     ensures { (v : ℕ) → v < length elements.old → element S.scale elements.new v ≡ arrival S.scale elements.old weights.now v }
@@ -51,6 +55,8 @@ fn round<S: Scale>(elements: &mut [S], scratch: &mut [S], weights: &[S])
 // `k` rounds: each module takes the choice over all walks of `k` moves that end there, each counted as the element of its first
 // module extended by the weights of its moves in order. Of n modules, the move from `u` to `v` has the weight
 // `weights[u * n + v]`. `scratch` has room for one element of each module; what is left in it is open.
+// (The three lists are no struct with `Fitting` as its invariant: `reach` and `least_totals` are given slices, and to make a struct of
+// them each would have to ask for `Fitting` as it does now.)
 pub fn rounds<S: Scale>(elements: &mut [S], scratch: &mut [S], weights: &[S], k: u32)
     requires { Fitting elements.old scratch.old weights.now }
     ensures listed { AllWalks S.scale elements.old weights.now k elements.new }

@@ -48,10 +48,9 @@ fn sums_stop(rt: HostRuntime) {
 fn full_ring(rt: HostRuntime) -> Result<(), Fail> {
     let (none, one) = (Total::no_way(), Total { sum: 1 });
     let mut weights = [none; 4096];
-    for u in 0..63 {
-        weights[u * 64 + u + 1] = one;
+    for u in 0..64 {
+        weights[u * 64 + (u + 1) % 64] = one;
     }
-    weights[63 * 64] = one;
     let mut totals = [none; 64];
     totals[0] = Total::start();
     rounds(&mut totals, &mut [none; 64], &weights, 64);

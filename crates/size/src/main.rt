@@ -2,22 +2,14 @@
 //! the rating then, or why it is refused.
 #![tactic(auto)]
 
-use anyhow::anyhow;
-use report::{Request, fill, size_text};
+use anyhow::Context;
+use report::{DEEPEST, Request, read_file, size_text};
 use std::env;
 
-// More than any netlist file has: the longest is 1,734 bytes.
-const LONGEST: usize = 2048;
-
-// The cap of every queue where the arguments give none: the deepest that a queue may be.
-const DEEPEST: u8 = 16;
-
-// A word of the arguments as a number.
+// A word of the arguments as a number. The tracing program has the same two lines, with its own message; a library for them would be longer.
 fn number(word: Option<String>) -> anyhow::Result<u32> {
-    match word {
-        Some(text) => Ok(text.as_str().parse::<u32>()?),
-        None => Err(anyhow!("usage: size A B M [CAP]")),
-    }
+    let text = word.context("usage: size A B M [CAP]")?;
+    Ok(text.as_str().parse::<u32>()?)
 }
 
 // The arguments A B M and, if it is there, the cap.
@@ -38,15 +30,10 @@ fn request(rt: &HostRuntime) -> anyhow::Result<Request> {
     })
 }
 
-fn run(rt: &HostRuntime) -> anyhow::Result<()> {
-    let request = request(rt)?;
-    let mut buffer = [0; LONGEST];
-    let length = fill(&mut rt.stdin(), &mut buffer)?;
-    let text = size_text(rt.alloc(), &buffer[0..length], request)?;
+fn main(rt: HostRuntime) -> anyhow::Result<()> {
+    let request = request(&rt)?;
+    let file = read_file(rt.alloc(), &mut rt.stdin())?;
+    let text = size_text(rt.alloc(), file.as_slice(), request)?;
     print!(rt; "{text}")?;
     Ok(())
-}
-
-fn main(rt: HostRuntime) -> anyhow::Result<()> {
-    run(&rt)
 }

@@ -55,7 +55,7 @@ module _ (a b l x : ℕ) (slow : b * x < a * l) where
       }
 
 -- one more slow cycle, with all of its queues put at their caps, is as many slots more as it lacks tokens
-pub charged : (n : Netlist) (a b : ℕ) (caps sizes r r' before after : List ℕ) (k tokens lack need : ℕ) → Ready n a b caps r → AtLeast sizes r
+pub charged : (n : Netlist) (a b : ℕ) (caps sizes r r' before after : List ℕ) (k tokens lack need : ℕ) → Ready n caps r → AtLeast sizes r
     → k ≤ length after → Found (modules n) a b (graph_of n r) before after k → tokens ≡ tokens_on (graph_of n r) (take k after) → Lacks a b k tokens lack → AtLeast r r'
     → ((i : ℕ) → i < length (take (k - 0) after) → Backward (get_or (take (k - 0) after) i 0) → get_or caps (get_or (take (k - 0) after) i 0 / 2) 0 ≤ get_or r' (get_or (take (k - 0) after) i 0 / 2) 0)
     → ((t : List ℕ) → AtLeast sizes t → AtLeast t caps → Reaching n a b t → need + added r t ≤ added sizes t)

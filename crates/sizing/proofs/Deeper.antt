@@ -69,23 +69,23 @@ same_leads G H l e (p ∷ ps) u v h =
     (omega (arith, h.0), sym (e p).0 ∙ h.1, subst (λ x. Leads H x ps v) (e p).1 (same_leads G H l e ps (at G p).to v h.2))
 
 -- a sizing has a byte for each channel
-pub sized_length : (n : Netlist) (a b : ℕ) (caps s : List ℕ) → Ready n a b caps s → length s ≡ length (channels_of n)
-sized_length n a b caps s ready = omega (arith, (sizing_fits (channels n) s ready.sized).0, n.channels.ok.0)
+pub sized_length : (n : Netlist) (caps s : List ℕ) → Ready n caps s → length s ≡ length (channels_of n)
+sized_length n caps s ready = omega (arith, (sizing_fits (channels n) s ready.sized).0, n.channels.ok.0)
 
 -- the places of a walk belong to channels, and each table that reaches the target is deeper than s at one of them
 pub record Covers (n : Netlist) (a b : ℕ) (s ps : List ℕ) : Type 0 where
   pub places : (i : ℕ) → i < length ps → get_or ps i 0 / 2 < length s
   pub all : (t : List ℕ) → length s ≡ length t → Reaching n a b t → Deeper s ps t
 
-module _ (n : Netlist) (a b : ℕ) (caps s : List ℕ) (ready : Ready n a b caps s) where
+module _ (n : Netlist) (a b : ℕ) (caps s : List ℕ) (ready : Ready n caps s) where
   long : length (graph_of n s) ≡ 2 * length s
   long =
-      let l : length s ≡ length (channels_of n) = sized_length n a b caps s ready in
+      let l : length s ≡ length (channels_of n) = sized_length n caps s ready in
       omega (arith, length_extended (kind_of n) (channels_of n) s l)
 
   same_long : (t : List ℕ) → length s ≡ length t → length (graph_of n s) ≡ length (graph_of n t)
   same_long t e =
-      let l : length s ≡ length (channels_of n) = sized_length n a b caps s ready in
+      let l : length s ≡ length (channels_of n) = sized_length n caps s ready in
       omega (arith, long, length_extended (kind_of n) (channels_of n) t (omega arith))
 
   -- a cycle under one sizing is a cycle under another, so a table that reaches the target has enough tokens on it
@@ -109,3 +109,10 @@ module _ (n : Netlist) (a b : ℕ) (caps s : List ℕ) (ready : Ready n a b caps
   -- the part of the cycle list that the code goes over
   pub found_covers : (before after : List ℕ) (k : ℕ) → Found (modules n) a b (graph_of n s) before after k → Covers n a b s (take (k - 0) after)
   found_covers before after k f = subst (Covers n a b s) (sym (front_is k after)) (slow_covers (take k after) f.cycle f.slow)
+
+-- the same where the netlist and the sizing are those that were lent to the call that found the cycle
+pub lent_covers : {n lent : Netlist} {a b : ℕ} {caps s lent' before after : List ℕ} {k : ℕ} → lent ≡ n → lent' ≡ s → Ready n caps s
+    → Found (modules lent) a b (graph_of lent lent') before after k → Covers n a b s (take (k - 0) after)
+lent_covers {n} {lent} {a} {b} {caps} {s} {lent'} {before} {after} {k} is same ready found =
+    found_covers n a b caps s ready before after k (subst (λ (m : Netlist). Found (modules m) a b (graph_of m s) before after k) is
+    (subst (λ (t : List ℕ). Found (modules lent) a b (graph_of lent t) before after k) same found))

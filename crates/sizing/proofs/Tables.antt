@@ -1,6 +1,7 @@
 -- One slot more at a channel: which candidates are left, and when there is none.
-use Rattle.std.proofs.Common.{◌≡◌, ℕ, zero, suc, ◌+◌, ◌-◌, ◌<◌, ◌≤◌, ◌≢◌, List, [], ◌∷◌, length, get_or, set, ◌∙◌, ⊎_elim, arith}
+use Rattle.std.proofs.Common.{◌≡◌, ℕ, zero, suc, ◌+◌, ◌-◌, ◌<◌, ◌≤◌, ◌≢◌, List, [], ◌∷◌, ◌++◌, length, take, get_or, set, ◌∙◌, ⊎_elim, arith}
 use Rattle.std.proofs.lemmas.List.{get_or-set_other, get_or-set_same, length-set, set-get_or, set-set}
+use Rattle.std.proofs.Math.Seq.{take-append_seam}
 use Rattle.std.proofs.lemmas.Bool.{cases_eq}
 use Rattle.sizing.specs.Candidates.{AtLeast, Candidate, added}
 
@@ -104,3 +105,7 @@ now_capped s now caps slots e same Good full = rw same at (none_capped Good now 
 pub own_candidate : (Good : List ℕ → Type 0) (s caps a : List ℕ) (slots : ℕ) → a ≡ s → AtLeast s caps → Good s → Good a × Candidate s caps slots a
 own_candidate Good s caps a slots q under good =
     rw q (good, record { above = least_same s; under = under; few = omega (arith, added_same s) })
+
+-- a table that was copied into the front of a longer one
+pub front_copied : (xs sizes rest : List ℕ) → xs ≡ sizes → take (length sizes) (xs ++ rest) ≡ sizes
+front_copied xs sizes rest is = rw is (take-append_seam sizes rest)

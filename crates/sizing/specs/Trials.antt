@@ -1,22 +1,23 @@
 -- Words of the trials, which only private contracts cite. Assumes nothing.
-use Rattle.std.specs.Prelude.{◌≡◌, ℕ, ◌+◌, ◌*◌, ◌%◌, ◌≤◌, Bool, true, false, List, None, slice_index}
+use Rattle.std.specs.Prelude.{◌≡◌, ℕ, ◌+◌, ◌*◌, ◌%◌, ◌≤◌, List, length, take, Some, None, Option, slice_index}
 use Rattle.netlist.specs.declared.netlist.Netlist.{Netlist}
 use Rattle.netlist.specs.Holds.{channels}
 use Rattle.rating.specs.Sizings.{sizing_fault}
 use Rattle.sizing.specs.Candidates.{AtLeast, Candidate, Reaching}
 
--- trials may start at this table: it is a sizing under the caps, which are none above 16, and the target is at most 1
-pub record Ready (n : Netlist) (a b : ℕ) (caps sizes : List ℕ) : Type 0 where
-  pub proper : a ≤ b
-  pub small : b ≤ 64
+-- no cap is above 16
+abbrev pub Low : List ℕ → Type 0
+Low caps = (k : ℕ) → slice_index caps k ≤ 16
+
+-- trials may start at this table: it is a sizing under the caps
+pub record Ready (n : Netlist) (caps sizes : List ℕ) : Type 0 where
   pub sized : sizing_fault (channels n) sizes ≡ None
   pub under : AtLeast sizes caps
-  pub low : (k : ℕ) → slice_index caps k ≤ 16
 
--- trials answer a candidate that reaches the target, or that there is none
-abbrev pub Verdict : Netlist → ℕ → ℕ → List ℕ → List ℕ → ℕ → List ℕ → List ℕ → Bool → Type 0
-Verdict n a b caps sizes slots before after true = Reaching n a b after × Candidate sizes caps slots after
-Verdict n a b caps sizes slots before after false = (after ≡ before) × ((t : List ℕ) → Candidate sizes caps slots t → Reaching n a b t → ⊥)
+-- trials answer a candidate that reaches the target, in the front of a table for as many channels as there can be, or that there is none
+abbrev pub Verdict : Netlist → ℕ → ℕ → List ℕ → List ℕ → ℕ → Option (List ℕ) → Type 0
+Verdict n a b caps sizes slots (Some t) = Reaching n a b (take (length sizes) t) × Candidate sizes caps slots (take (length sizes) t)
+Verdict n a b caps sizes slots None = (t : List ℕ) → Candidate sizes caps slots t → Reaching n a b t → ⊥
 
 -- the place p of the extended graph leads back along a channel: a slot more for channel p / 2 + 1 is a token more for it
 abbrev pub Backward : ℕ → Type 0

@@ -7,8 +7,9 @@ ghost use Rattle.sizing.specs.Trials.{Backward, Lacks, Ready};
 
 use crate::aim::Aim;
 use crate::places::channel_with_room;
-use marked::MODULES;
-use rating::{SlowCycle, slow_cycle_with_tokens};
+use marked::{MODULES, Target};
+use netlist::CHANNELS;
+use rating::{SizedNetlist, SlowCycle, slow_cycle_with_tokens};
 
 // Puts the queue of each channel along which one of the places leads back at its cap.
 fn lift(places: &[u16], caps: &[u8], sizes: &mut [u8])
@@ -26,34 +27,33 @@ fn lift(places: &[u16], caps: &[u8], sizes: &mut [u8])
 }
 
 // The tokens that a slow cycle lacks: the fewest with which its mean would be A/B at least.
-fn lacking(target: (u32, u32), cycle: SlowCycle) -> usize
-    requires proper { target.0 ≤ target.1 }
-    requires small { target.1 ≤ 64 }
+fn lacking(target: Target, cycle: SlowCycle) -> usize
     requires short { cycle.length ≤ 64 }
-    requires slow { target.1 * cycle.tokens < target.0 * cycle.length }
-    ensures { Lacks target.0 target.1 cycle.length cycle.tokens result }
+    requires slow { target.b * cycle.tokens < target.a * cycle.length }
+    ensures { Lacks target.a target.b cycle.length cycle.tokens result }
 {
-    let (a, b) = target;
+    let (a, b) = target.fraction();
     let short = a * cycle.length as u32 - b * cycle.tokens;
     short.div_ceil(b) as usize
 }
 
-// A number of slots that every candidate which reaches the target adds to the table. It is not counted on once it is `enough`.
-// `raised` is scratch, as long as the table.
-pub(crate) fn least_needed(aim: Aim, sizes: &[u8], enough: usize, raised: &mut [u8]) -> usize
-    requires ready { Ready aim.netlist.now aim.target.0 aim.target.1 aim.caps.now sizes.now }
-    requires room { length raised.old ≡ length sizes.now }
-    ensures { (t : List ℕ) → AtLeast sizes.now t → AtLeast t aim.entry.caps.now → Reaching aim.entry.netlist.now aim.entry.target.0 aim.entry.target.1 t → result ≤ added sizes.now t }
+// A number of slots that every candidate which reaches the target adds to the table. Counting ends once there are `enough`.
+pub(crate) fn least_needed(aim: Aim, chip: SizedNetlist, enough: usize) -> usize
+    requires { AtLeast chip.sizing.now aim.caps.now }
+    ensures { (t : List ℕ) → AtLeast chip.entry.sizing.now t → AtLeast t aim.entry.caps.now → Reaching chip.entry.netlist.now aim.entry.target.a aim.entry.target.b t → result ≤ added chip.entry.sizing.now t }
 {
-    raised.copy_from_slice(sizes);
+    // Arrays, here and below: a sizing may not fail for memory.
+    let mut table = [0; CHANNELS];
+    let raised = &mut table[..chip.sizing().len()];
+    raised.copy_from_slice(chip.sizing());
     let mut need = 0;
     while need < enough {
         let mut cycle = [0; MODULES];
-        let Some(slow) = slow_cycle_with_tokens(aim.netlist, raised, aim.target, &mut cycle) else {
+        let deeper = SizedNetlist::new(chip.netlist(), raised);
+        let Some(slow) = slow_cycle_with_tokens(deeper, aim.target, &mut cycle) else {
             return need;
         };
-        let length = slow.length;
-        lift(&cycle[0..length], aim.caps, raised);
+        lift(&cycle[0..slow.length], aim.caps, raised);
         need = need.saturating_add(lacking(aim.target, slow));
     }
     need

@@ -2,11 +2,26 @@
 // out of a trial ends it.
 ghost use Rattle.std.specs.Prelude.{◌≡◌, ◌+◌, ◌<◌, length, slice_index, slice_set};
 
-// A table with one byte a slot deeper. `deepened!` makes it.
 pub(crate) struct Deepened<'a> {
     pub(crate) sizes: &'a mut [u8],
-    pub(crate) at: usize,
-    pub(crate) old: u8,
+    at: usize,
+    old: u8,
+}
+
+impl<'a> Deepened<'a> {
+    // Deepens the table by a slot at one place.
+    pub(crate) fn new(sizes: &'a mut [u8], at: usize) -> Deepened<'a>
+        requires within { at < length sizes.old }
+        requires fits { slice_index sizes.old at < 255 }
+        ensures same_table { result.sizes.ghost_name ≡ sizes.entry.ghost_name }
+        ensures at { result.at ≡ at }
+        ensures old { result.old ≡ slice_index sizes.old at }
+        ensures after { result.sizes.now ≡ slice_set sizes.old at (slice_index sizes.old at + 1) }
+    {
+        let old = sizes[at];
+        sizes[at] = old + 1;
+        Deepened { sizes, at, old }
+    }
 }
 
 impl Drop for Deepened<'_> {
@@ -18,28 +33,3 @@ impl Drop for Deepened<'_> {
         sizes[at] = old;
     }
 }
-
-// Deepens a table by a slot at one place, and returns the byte that was there.
-pub(crate) fn raise(sizes: &mut [u8], at: usize) -> u8
-    requires within { at < length sizes.old }
-    requires fits { slice_index sizes.old at < 255 }
-    ensures old { result ≡ slice_index sizes.old at }
-    ensures after { sizes.new ≡ slice_set sizes.old at (slice_index sizes.old at + 1) }
-{
-    let old = sizes[at];
-    sizes[at] = old + 1;
-    old
-}
-
-// The guard, made where it is used: what its table is lent from is known only there.
-macro_rules! deepened {
-    ($sizes:expr, $at:expr) => {
-        $crate::deepened::Deepened {
-            at: $at,
-            old: $crate::deepened::raise($sizes, $at),
-            sizes: &mut *$sizes,
-        }
-    };
-}
-
-pub(crate) use deepened;

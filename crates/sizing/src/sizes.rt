@@ -1,5 +1,4 @@
 ghost use Rattle.std.specs.Prelude.{◌≡◌, ◌≤◌, length, MatchOption};
-ghost use Rattle.checking.specs.Verdicts.{Passed};
 ghost use Rattle.sizing.specs.Answers.{SizeAnswer};
 ghost use Rattle.sizing.specs.Candidates.{Fewest, Unreached};
 ghost use Rattle.sizing.specs.Trials.{Ready};
@@ -10,27 +9,15 @@ use crate::trials::search;
 use checking::Checked;
 use netlist::{Cause, Refusal};
 
-// The most channels that a netlist may have.
-const CHANNELS: usize = 192;
-
-// Looks for a candidate that adds 0 slots, then 1, and so on: the first that reaches the target goes into the table. `answer` and
-// `raised` are scratch, as long as the table.
-fn fewest(
-    aim: Aim,
-    most: usize,
-    sizing: &mut [u8],
-    answer: &mut [u8],
-    raised: &mut [u8],
-) -> Option<usize>
-    requires ready { Ready aim.netlist.now aim.target.0 aim.target.1 aim.caps.now sizing.old }
+// Looks for a candidate that adds 0 slots, then 1, and so on: the first that reaches the target goes into the table.
+fn fewest(aim: Aim, most: usize, sizing: &mut [u8]) -> Option<usize>
+    requires ready { Ready aim.netlist.now aim.caps.now sizing.old }
     requires few { most ≤ 8 }
-    requires room { length answer.old ≡ length sizing.old }
-    requires space { length raised.old ≡ length sizing.old }
-    ensures { MatchOption result ((sizing.new ≡ sizing.old) × Unreached aim.entry.netlist.now aim.entry.target.0 aim.entry.target.1 aim.entry.caps.now most sizing.old) (λ k. Fewest aim.entry.netlist.now aim.entry.target.0 aim.entry.target.1 aim.entry.caps.now most sizing.old k sizing.new) }
+    ensures { MatchOption result ((sizing.new ≡ sizing.old) × Unreached aim.entry.netlist.now aim.entry.target.a aim.entry.target.b aim.entry.caps.now most sizing.old) (λ k. Fewest aim.entry.netlist.now aim.entry.target.a aim.entry.target.b aim.entry.caps.now most sizing.old k sizing.new) }
 {
     for slots in 0..=most {
-        if search(aim, sizing, slots, answer, raised) {
-            sizing.copy_from_slice(answer);
+        if let Some(found) = search(aim, sizing, slots) {
+            sizing.copy_from_slice(&found[..sizing.len()]);
             return Some(slots);
         }
     }
@@ -47,30 +34,15 @@ pub fn size(
     allowance: usize,
     sizing: &mut [u8],
 ) -> Result<usize, Refusal>
-    requires { Passed checked.netlist.now }
     ensures { SizeAnswer checked.entry.netlist.now target.0 target.1 caps.now allowance sizing.old sizing.new result }
 {
     let netlist = checked.netlist();
     let channels = netlist.channels().len();
-    test_request(channels, target, caps, allowance, sizing)?;
+    let target = test_request(channels, target, caps, allowance, sizing)?;
     let aim = Aim {
         netlist,
         target,
         caps,
     };
-    let mut answer = [0; CHANNELS];
-    let mut raised = [0; CHANNELS];
-    let Some(slots) = fewest(
-        aim,
-        allowance,
-        sizing,
-        &mut answer[0..channels],
-        &mut raised[0..channels],
-    ) else {
-        return Err(Refusal {
-            cause: Cause::Unreachable,
-            place: 0,
-        });
-    };
-    Ok(slots)
+    fewest(aim, allowance, sizing).ok_or(Cause::Unreachable.into())
 }

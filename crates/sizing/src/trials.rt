@@ -6,46 +6,42 @@ ghost use Rattle.sizing.specs.Trials.{Ready, Verdict};
 
 use crate::aim::Aim;
 use crate::bounds::least_needed;
-use crate::deepened::deepened;
+use crate::deepened::Deepened;
 use crate::places::channel_with_room;
 use crate::rated::slow_when_rated;
 use marked::MODULES;
+use netlist::CHANNELS;
+use rating::SizedNetlist;
 
-// Looks for a candidate that adds at most so many slots to the table and reaches the target, and puts it into `answer`. The table
-// itself is the same at the end. `raised` is scratch, as long as the table.
-pub(crate) fn search(
-    aim: Aim,
-    sizes: &mut [u8],
-    slots: usize,
-    answer: &mut [u8],
-    raised: &mut [u8],
-) -> bool
-    requires ready { Ready aim.netlist.now aim.target.0 aim.target.1 aim.caps.now sizes.old }
+// Looks for a candidate that adds at most so many slots to the table and reaches the target: the front of what is answered. The table
+// itself is the same at the end. (An array and no list, since a sizing may not fail for memory.)
+pub(crate) fn search(aim: Aim, sizes: &mut [u8], slots: usize) -> Option<[u8; CHANNELS]>
+    requires ready { Ready aim.netlist.now aim.caps.now sizes.old }
     requires few { slots ≤ 8 }
-    requires room { length answer.old ≡ length sizes.old }
-    requires space { length raised.old ≡ length sizes.old }
     ensures kept { sizes.new ≡ sizes.old }
-    ensures verdict { Verdict aim.entry.netlist.now aim.entry.target.0 aim.entry.target.1 aim.entry.caps.now sizes.old slots answer.old answer.new result }
+    ensures verdict { Verdict aim.entry.netlist.now aim.entry.target.a aim.entry.target.b aim.entry.caps.now sizes.old slots result }
 {
     let mut cycle = [0; MODULES];
-    let Some(count) = slow_when_rated(aim, sizes, &mut cycle) else {
-        answer.copy_from_slice(sizes);
-        return true;
+    let chip = SizedNetlist::new(aim.netlist, sizes);
+    let Some(count) = slow_when_rated(chip, aim.target, &mut cycle) else {
+        let mut found = [0; CHANNELS];
+        found[..sizes.len()].copy_from_slice(sizes);
+        return Some(found);
     };
     if slots == 0 {
-        return false;
+        return None;
     }
-    let needed = least_needed(aim, sizes, slots + 1, raised);
+    let needed = least_needed(aim, chip, slots + 1);
     if needed > slots {
-        return false;
+        return None;
     }
     for place in &cycle[0..count] {
         if let Some(channel) = channel_with_room(*place, sizes, aim.caps) {
-            let guard = deepened!(sizes, channel);
-            if search(aim, &mut *guard.sizes, slots - 1, answer, raised) {
-                return true;
+            let guard = Deepened::new(sizes, channel);
+            if let Some(found) = search(aim, &mut *guard.sizes, slots - 1) {
+                return Some(found);
             }
         }
     }
-    false
+    None
 }

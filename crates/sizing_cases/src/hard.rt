@@ -1,5 +1,5 @@
 // Netlists with too many sizings to try them all.
-use anyhow::anyhow;
+use anyhow::Context;
 use drafts::Draft;
 use netlist::Kind;
 use std::alloc::Global;
@@ -54,11 +54,10 @@ pub fn cover(heap: Global, vertices: usize, edges: &[(usize, usize)]) -> anyhow:
         ends.push((source, sink))?;
     }
     for (u, v) in edges {
-        let (Some(one), Some(other)) = (ends.as_slice().get(*u), ends.as_slice().get(*v)) else {
-            return Err(anyhow!("an edge to no vertex"));
-        };
-        draft.way(one.0, Kind::RelayStation, 1, other.1)?;
-        draft.way(other.0, Kind::RelayStation, 1, one.1)?;
+        let (source, sink) = *ends.get(*u).context("an edge to no vertex")?;
+        let (other_source, other_sink) = *ends.get(*v).context("an edge to no vertex")?;
+        draft.way(source, Kind::RelayStation, 1, other_sink)?;
+        draft.way(other_source, Kind::RelayStation, 1, sink)?;
     }
     let first = draft.add(Kind::Block)?;
     let fifth = draft.run(first, Kind::Block, 4)?;

@@ -7,23 +7,26 @@ mod hard;
 mod outcome;
 
 use crate::cases::{
-    ALONE, ALONE_CASES, Case, DIAMOND, DIAMOND_CASES, REFUSED_CAPS, REFUSED_SIZES, REFUSED_TARGETS,
-    ROUND, ROUND_CASES, TEN, TEN_CASES,
+    ALONE_CASES, Case, DIAMOND_CASES, REFUSED_CAPS, REFUSED_SIZES, REFUSED_TARGETS, ROUND_CASES,
+    Shown, TEN_CASES,
 };
 use crate::hard::{PETERSEN, cover, reconvergent};
-use crate::outcome::{Request, Shown, outcome};
-use anyhow::anyhow;
-use drafts::{Draft, Shape, chain, ring};
+use crate::outcome::outcome;
+use anyhow::Context;
+use drafts::{ALONE, DIAMOND, Draft, ROUND, Shape, TEN, chain, line, ring};
 
-// Prints what becomes of each request for a netlist.
-fn show(rt: &HostRuntime, shape: Shape<'_>, cases: &[Case<'_>]) -> anyhow::Result<()> {
-    let file = shape.file(rt.alloc())?;
+// Prints what becomes of each request for a netlist file.
+fn show_file(rt: &HostRuntime, file: &[u8], cases: &[Case<'_>]) -> anyhow::Result<()> {
     for case in cases {
-        let text = outcome(rt.alloc(), file.as_slice(), case.request, case.shown)?;
-        let label = case.label;
-        println!(rt; "{label}: {text}")?;
+        let text = line(rt.alloc(), outcome(rt.alloc(), file, *case))?;
+        println!(rt; "{}: {text}", case.label)?;
     }
     Ok(())
+}
+
+fn show(rt: &HostRuntime, shape: Shape<'_>, cases: &[Case<'_>]) -> anyhow::Result<()> {
+    let file = shape.file(rt.alloc())?;
+    show_file(rt, file.as_slice(), cases)
 }
 
 const ONES: [u8; 192] = [1; 192];
@@ -35,11 +38,7 @@ const SIXTEENS: [u8; 192] = [16; 192];
 // All of 192 queues may be deepened; only those beside the relay stations help.
 fn chains(rt: &HostRuntime) -> anyhow::Result<()> {
     let channels = chain(rt.alloc())?;
-    let shape = Shape {
-        modules: 64,
-        blocks: 62,
-        channels: channels.as_slice(),
-    };
+    let shape = Shape::full(62, channels.as_slice());
     let mut last = SIXTEENS;
     last[191] = 1;
     for (label, allowance, present, shown) in [
@@ -53,15 +52,12 @@ fn chains(rt: &HostRuntime) -> anyhow::Result<()> {
         ("chain of queues 1, at most 8", 8, &ONES, Shown::Queues),
         ("chain of queues 1, at most 7", 7, &ONES, Shown::Holding),
     ] {
-        let request = Request {
+        let case = Case {
+            label,
             target: (1, 1),
             caps: &SIXTEENS,
             allowance,
             present,
-        };
-        let case = Case {
-            label,
-            request,
             shown,
         };
         show(rt, shape, &[case])?;
@@ -77,80 +73,52 @@ fn rings(rt: &HostRuntime) -> anyhow::Result<()> {
         ("ring of 64, blocks to 1, 1/63", 1, (1, 63)),
         ("ring of 64, blocks to 63, 63/64", 63, (63, 64)),
     ] {
-        let shape = Shape {
-            modules: 64,
-            blocks,
-            channels: channels.as_slice(),
-        };
-        let request = Request {
+        let case = Case {
+            label,
             target,
             caps: &SIXTEENS,
             allowance: 8,
             present: &SIXTEENS,
-        };
-        let case = Case {
-            label,
-            request,
             shown: Shown::Holding,
         };
-        show(rt, shape, &[case])?;
+        show(rt, Shape::full(blocks, channels.as_slice()), &[case])?;
     }
     Ok(())
 }
 
-// One queue of a full ring is two slots short.
-fn one_queue(rt: &HostRuntime, shape: Shape<'_>) -> anyhow::Result<()> {
-    let mut present = SIXTEENS;
-    present[93] = 14;
-    let request = Request {
+// A full ring of which one queue is two slots short, or the last cap is below its queue.
+fn full_ring(rt: &HostRuntime) -> anyhow::Result<()> {
+    let channels = ring(rt.alloc())?;
+    let mut short = SIXTEENS;
+    short[93] = 14;
+    let mut caps = SIXTEENS;
+    caps[191] = 15;
+    let ample = Case {
+        label: "ring of 64, queue 14",
         target: (31, 64),
         caps: &SIXTEENS,
         allowance: 8,
-        present: &present,
-    };
-    let ample = Case {
-        label: "ring of 64, queue 14",
-        request,
+        present: &short,
         shown: Shown::Queues,
     };
     let scarce = Case {
         label: "ring of 64, queue 14, at most 1",
-        request: Request {
-            allowance: 1,
-            ..request
-        },
+        allowance: 1,
         shown: Shown::Holding,
+        ..ample
     };
-    show(rt, shape, &[ample, scarce])
-}
-
-// The last cap of a full ring is below its queue.
-fn last_cap(rt: &HostRuntime, shape: Shape<'_>) -> anyhow::Result<()> {
-    let mut caps = SIXTEENS;
-    caps[191] = 15;
-    let request = Request {
-        target: (31, 64),
-        caps: &caps,
-        allowance: 8,
-        present: &SIXTEENS,
-    };
-    let case = Case {
+    let capped = Case {
         label: "ring of 64, last cap 15",
-        request,
+        caps: &caps,
+        present: &SIXTEENS,
         shown: Shown::Holding,
+        ..ample
     };
-    show(rt, shape, &[case])
-}
-
-fn full_ring(rt: &HostRuntime) -> anyhow::Result<()> {
-    let channels = ring(rt.alloc())?;
-    let shape = Shape {
-        modules: 64,
-        blocks: 31,
-        channels: channels.as_slice(),
-    };
-    one_queue(rt, shape)?;
-    last_cap(rt, shape)
+    show(
+        rt,
+        Shape::full(31, channels.as_slice()),
+        &[ample, scarce, capped],
+    )
 }
 
 // A request for a draft whose queues are all 1.
@@ -164,18 +132,15 @@ fn show_draft(
 ) -> anyhow::Result<()> {
     let file = draft.file(rt.alloc())?;
     let channels = draft.channels();
-    if channels > 192 {
-        return Err(anyhow!("more than 192 channels"));
-    }
-    let request = Request {
+    let case = Case {
+        label,
         target,
-        caps: &caps[0..channels],
+        caps: caps.get(0..channels).context("more than 192 channels")?,
         allowance,
-        present: &ONES[0..channels],
+        present: ONES.get(0..channels).context("more than 192 channels")?,
+        shown: Shown::Holding,
     };
-    let text = outcome(rt.alloc(), file.as_slice(), request, Shown::Holding)?;
-    println!(rt; "{label}: {text}")?;
-    Ok(())
+    show_file(rt, file.as_slice(), &[case])
 }
 
 fn pairs(rt: &HostRuntime) -> anyhow::Result<()> {
@@ -209,34 +174,22 @@ fn covers(rt: &HostRuntime) -> anyhow::Result<()> {
     Ok(())
 }
 
+// The netlist with two ways, and what is refused of it.
+fn diamond(rt: &HostRuntime) -> anyhow::Result<()> {
+    show(rt, DIAMOND, &DIAMOND_CASES)?;
+    show(rt, DIAMOND, &REFUSED_TARGETS)?;
+    show(rt, DIAMOND, &REFUSED_SIZES)?;
+    show(rt, DIAMOND, &REFUSED_CAPS)
+}
+
 fn small(rt: &HostRuntime) -> anyhow::Result<()> {
     show(rt, ROUND, &ROUND_CASES)?;
     show(rt, ALONE, &ALONE_CASES)?;
     show(rt, TEN, &TEN_CASES)
 }
 
-// The netlist with two ways, and then what is refused of it.
-fn diamond(rt: &HostRuntime) -> anyhow::Result<()> {
-    show(rt, DIAMOND, &DIAMOND_CASES)
-}
-
-fn refused_targets(rt: &HostRuntime) -> anyhow::Result<()> {
-    show(rt, DIAMOND, &REFUSED_TARGETS)
-}
-
-fn refused_sizes(rt: &HostRuntime) -> anyhow::Result<()> {
-    show(rt, DIAMOND, &REFUSED_SIZES)
-}
-
-fn refused_caps(rt: &HostRuntime) -> anyhow::Result<()> {
-    show(rt, DIAMOND, &REFUSED_CAPS)
-}
-
 fn main(rt: HostRuntime) -> anyhow::Result<()> {
     diamond(&rt)?;
-    refused_targets(&rt)?;
-    refused_sizes(&rt)?;
-    refused_caps(&rt)?;
     small(&rt)?;
     chains(&rt)?;
     rings(&rt)?;

@@ -2,26 +2,18 @@
 //! arguments ask, and prints what was added, each request with its answer and where the run then stands, or why it is refused.
 #![tactic(auto)]
 
-use anyhow::anyhow;
-use report::{Request, fill};
+use anyhow::Context;
+use report::{DEEPEST, Request, read_file};
 use std::env;
 use trace_text::{Command, parse, trace_text};
-
-// More than any netlist file has: the longest is 1,734 bytes.
-const LONGEST: usize = 2048;
-
-// The cap of every queue: the deepest that a queue may be.
-const DEEPEST: u8 = 16;
 
 const USAGE: &str =
     "usage: trace A B M [prime | hold V | step [T] | firings V | fill E | front E]..";
 
-// A word of the arguments as a number.
+// A word of the arguments as a number. The sizing program has the same two lines, with its own message; a library for them would be longer.
 fn number(word: Option<String>) -> anyhow::Result<u32> {
-    match word {
-        Some(text) => Ok(text.as_str().parse::<u32>()?),
-        None => Err(anyhow!(USAGE)),
-    }
+    let text = word.context(USAGE)?;
+    Ok(text.as_str().parse::<u32>()?)
 }
 
 // The arguments: A B M, and the commands.
@@ -32,9 +24,7 @@ fn arguments(rt: &HostRuntime) -> anyhow::Result<(Request, Vec<Command>)> {
     let b = number(words.next())?;
     let allowance = number(words.next())? as usize;
     let list: Vec<String> = words.collect(rt.alloc())?;
-    let Some(commands) = parse(rt.alloc(), list.as_slice())? else {
-        return Err(anyhow!(USAGE));
-    };
+    let commands = parse(rt.alloc(), list.as_slice())?.context(USAGE)?;
     let request = Request {
         target: (a, b),
         allowance,
@@ -43,15 +33,10 @@ fn arguments(rt: &HostRuntime) -> anyhow::Result<(Request, Vec<Command>)> {
     Ok((request, commands))
 }
 
-fn run(rt: &HostRuntime) -> anyhow::Result<()> {
-    let (request, commands) = arguments(rt)?;
-    let mut buffer = [0; LONGEST];
-    let length = fill(&mut rt.stdin(), &mut buffer)?;
-    let text = trace_text(rt.alloc(), &buffer[0..length], request, commands.as_slice())?;
+fn main(rt: HostRuntime) -> anyhow::Result<()> {
+    let (request, commands) = arguments(&rt)?;
+    let file = read_file(rt.alloc(), &mut rt.stdin())?;
+    let text = trace_text(rt.alloc(), file.as_slice(), request, commands.as_slice())?;
     print!(rt; "{text}")?;
     Ok(())
-}
-
-fn main(rt: HostRuntime) -> anyhow::Result<()> {
-    run(&rt)
 }

@@ -1,13 +1,14 @@
 -- The lines that a trace prints. Assumes nothing.
-use Rattle.std.specs.Prelude.{ℕ, zero, suc, ◌+◌, ◌-◌, Bool, true, false, cond, List, [], ◌∷◌, ◌++◌, length, take, drop, replicate, codes, decimal, slice_index_or}
+use Rattle.std.specs.Prelude.{ℕ, zero, suc, ◌+◌, ◌-◌, Bool, true, false, cond, List, [], ◌∷◌, ◌++◌, length, take, drop, replicate, Some, None, Ok, Err, Option, Result, codes, decimal, slice_index_or}
 use Rattle.netlist.specs.declared.netlist.Module.{Module}
 use Rattle.netlist.specs.Holds.{entry_of}
 use Rattle.netlist.specs.Layout.{Entry}
 use Rattle.netlist.specs.Refusals.{refusal_line}
 use Rattle.report.specs.Lines.{numbered}
-use Rattle.play.specs.declared.exchange.Answer.{Answer}
-use Rattle.play.specs.declared.exchange.Answer.TheVariants.{Open, Done, Number, Item, Empty, Refused}
+use Rattle.netlist.specs.declared.refusal.Refusal.{Refusal}
 use Rattle.play.specs.declared.exchange.Exchange.{Exchange}
+use Rattle.play.specs.declared.exchange.Reply.{Reply}
+use Rattle.play.specs.declared.exchange.Reply.TheVariants.{Done, Number, Item}
 use Rattle.play.specs.declared.exchange.Request.{Request}
 use Rattle.play.specs.declared.exchange.Request.TheVariants.{Prime as PrimeBy, Hold as HoldBy, Step as StepBy, Firings as FiringsOf, Fill as FillOf, Front as FrontOf}
 use Rattle.trace_text.specs.declared.command.Command.{Command}
@@ -23,25 +24,29 @@ command_words (Firings v) = codes "firings " ++ decimal v
 command_words (Fill e) = codes "fill " ++ decimal e
 command_words (Front e) = codes "front " ++ decimal e
 
--- as `done`, `3`, `item 2`, `empty` or `refused 13 at 0`
-abbrev pub answer_words : Answer ℕ → List ℕ
-answer_words Open = codes "open"
-answer_words Done = codes "done"
-answer_words (Number n) = decimal n
-answer_words (Item x) = codes "item " ++ decimal x
-answer_words Empty = codes "empty"
-answer_words (Refused why) = refusal_line why
+-- what a call answered, if it was made
+abbrev pub Answer : Type 0
+Answer = Option (Result (Reply ℕ) Refusal)
 
-abbrev pub refuses : Answer ℕ → Bool
-refuses Open = false
-refuses Done = false
-refuses (Number n) = false
-refuses (Item x) = false
-refuses Empty = false
-refuses (Refused why) = true
+abbrev pub done : Answer
+done = Some (Ok Done)
+
+-- as `done`, `3`, `item 2`, `empty` or `refused 13 at 0`
+abbrev pub answer_words : Answer → List ℕ
+answer_words None = codes "open"
+answer_words (Some (Ok Done)) = codes "done"
+answer_words (Some (Ok (Number n))) = decimal n
+answer_words (Some (Ok (Item (Some x)))) = codes "item " ++ decimal x
+answer_words (Some (Ok (Item None))) = codes "empty"
+answer_words (Some (Err why)) = refusal_line why
+
+abbrev pub refuses : Answer → Bool
+refuses None = false
+refuses (Some (Ok _)) = false
+refuses (Some (Err _)) = true
 
 -- the answer of several calls as one: the first refusal, or else the last answer, and a given one where there is no call
-abbrev pub outcome_from : Answer ℕ → List (Exchange ℕ) → Answer ℕ
+abbrev pub outcome_from : Answer → List (Exchange ℕ) → Answer
 outcome_from last [] = last
 outcome_from last (x ∷ xs) = cond (refuses x.answer) x.answer (outcome_from x.answer xs)
 
@@ -71,7 +76,7 @@ request_of (Front e) = FrontOf e 18446744073709551615
 
 -- the calls of a command as a list to be answered, and those of some commands one after another
 abbrev pub exchanges_of : Command → List (Exchange ℕ)
-exchanges_of c = replicate (count_of c) (record { request = request_of c; answer = Open })
+exchanges_of c = replicate (count_of c) (record { request = request_of c; answer = None })
 
 abbrev pub exchanges_in : List Command → List (Exchange ℕ)
 exchanges_in [] = []
@@ -88,7 +93,7 @@ asked_for cs modules channels = exchanges_in cs ++ (questions Firings modules ++
 
 -- as `hold 2: done`
 abbrev pub answer_line : Command → List (Exchange ℕ) → List ℕ
-answer_line c own = command_words c ++ (codes ": " ++ (answer_words (outcome_from Done own) ++ codes "\n"))
+answer_line c own = command_words c ++ (codes ": " ++ (answer_words (outcome_from done own) ++ codes "\n"))
 
 -- a line for each command, whose calls are at the front of the exchanges
 abbrev pub answer_lines : List Command → List (Exchange ℕ) → List ℕ
@@ -101,19 +106,19 @@ fired_of k m x = codes "module " ++ (decimal k ++ (codes " " ++ (m.name ++ (code
 
 -- what stands where a list has no exchange
 abbrev pub no_exchange : Exchange ℕ
-no_exchange = record { request = PrimeBy 0; answer = Open }
+no_exchange = record { request = PrimeBy 0; answer = None }
 
 abbrev pub fired_line : List (Exchange ℕ) → ℕ → Entry → List ℕ
 fired_line xs k m = fired_of k m (slice_index_or xs (k - 1) no_exchange)
 
 -- as `channel 1 fill 1 front 2`, or `front none`
-abbrev pub front_words : Answer ℕ → List ℕ
-front_words Open = codes "none"
-front_words Done = codes "none"
-front_words (Number n) = codes "none"
-front_words (Item x) = decimal x
-front_words Empty = codes "none"
-front_words (Refused why) = codes "none"
+abbrev pub front_words : Answer → List ℕ
+front_words None = codes "none"
+front_words (Some (Ok Done)) = codes "none"
+front_words (Some (Ok (Number n))) = codes "none"
+front_words (Some (Ok (Item (Some x)))) = decimal x
+front_words (Some (Ok (Item None))) = codes "none"
+front_words (Some (Err why)) = codes "none"
 
 abbrev pub channel_of : ℕ → Exchange ℕ → Exchange ℕ → List ℕ
 channel_of k fill front = codes "channel " ++ (decimal k ++ (codes " fill " ++ (answer_words fill.answer ++ (codes " front " ++ (front_words front.answer ++ codes "\n")))))

@@ -1,54 +1,63 @@
-ghost use Rattle.std.specs.Prelude.{◌≡◌, ◌≤◌, ◌++◌, length, IfOk, string_bytes, OnOk};
-ghost use Rattle.trace_text.specs.Lines.{answer_line, answer_lines, answer_words, calls_in, outcome_from, refuses};
-ghost use Rattle.play.specs.declared.exchange.Answer.TheVariants.{Done};
+ghost use Rattle.std.specs.Prelude.{◌≡◌, ◌≤◌, ◌++◌, length, Some, IfOk, string_bytes, OnOk};
+ghost use Rattle.trace_text.specs.Lines.{answer_line, answer_lines, answer_words, calls_in, done, front_words, outcome_from, refuses};
 
 use crate::command::Command;
-use crate::requests::count;
-use play::{Answer, Exchange};
+use play::{Answer, Exchange, Reply};
 use std::alloc::{AllocError, Global};
+use std::fmt;
 
-// The words of an answer.
-pub(crate) fn answer_text(heap: Global, answer: Answer<u32>) -> Result<String, AllocError>
-    ensures { IfOk result (λ s. string_bytes s ≡ answer_words answer) }
-{
-    match answer {
-        Answer::Open => format!(in heap; "open"),
-        Answer::Done => format!(in heap; "done"),
-        Answer::Number(n) => format!(in heap; "{n}"),
-        Answer::Item(item) => format!(in heap; "item {item}"),
-        Answer::Empty => format!(in heap; "empty"),
-        Answer::Refused(why) => format!(in heap; "{why}"),
+// An answer, or none yet, in the words of a trace.
+#[derive(Clone, Copy)]
+pub(crate) struct Told(pub(crate) Option<Answer<u32>>);
+
+impl fmt::Display for Told {
+    ghost output = { λ x. Some (answer_words x.0) };
+
+    fn fmt<W: fmt::Write>(&self, f: &mut fmt::Formatter<W>) -> fmt::Result {
+        match self.0 {
+            None => write!(f, "open"),
+            Some(Ok(reply)) => write!(f, "{reply}"),
+            Some(Err(why)) => write!(f, "{why}"),
+        }
     }
 }
 
-fn is_refused(answer: Answer<u32>) -> bool
+// The item that an answer tells of, or that there is none.
+#[derive(Clone, Copy)]
+pub(crate) struct Front(pub(crate) Option<Answer<u32>>);
+
+impl fmt::Display for Front {
+    ghost output = { λ x. Some (front_words x.0) };
+
+    fn fmt<W: fmt::Write>(&self, f: &mut fmt::Formatter<W>) -> fmt::Result {
+        match self.0 {
+            Some(Ok(Reply::Item(Some(item)))) => write!(f, "{item}"),
+            _ => write!(f, "none"),
+        }
+    }
+}
+
+fn is_refused(answer: Option<Answer<u32>>) -> bool
     ensures { result ≡ refuses answer }
 {
-    match answer {
-        Answer::Refused(_) => true,
-        _ => false,
-    }
+    matches!(answer, Some(Err(_)))
 }
 
 // The answer of several calls as one: the first refusal, or else the last answer.
-fn outcome(own: &[Exchange<u32>]) -> Answer<u32>
-    ensures { result ≡ outcome_from Done own.now }
+fn outcome(own: &[Exchange<u32>]) -> Option<Answer<u32>>
+    ensures { result ≡ outcome_from done own.now }
 {
-    let mut last = Answer::Done;
-    for exchange in own {
-        last = exchange.answer;
-        if is_refused(last) {
-            return last;
-        }
-    }
-    last
+    own.iter()
+        .find(|exchange| is_refused(exchange.answer))
+        .or(own.last())
+        .map_or(Some(Ok(Reply::Done)), |exchange| exchange.answer)
 }
 
 // The line of a command with the answer of its calls.
 fn command_text(heap: Global, command: Command, own: &[Exchange<u32>]) -> Result<String, AllocError>
     ensures { IfOk result (λ s. string_bytes s ≡ answer_line command own.now) }
 {
-    let answer = answer_text(heap, outcome(own))?;
+    let answer = Told(outcome(own));
     format!(in heap; "{command}: {answer}\n")
 }
 
@@ -64,7 +73,7 @@ pub(crate) fn add_answers(
 {
     let mut rest = exchanges;
     for command in commands {
-        let (own, others) = rest.split_at(count(*command));
+        let (own, others) = rest.split_at(command.count());
         let line = command_text(heap, *command, own)?;
         text.push_str(line.as_str())?;
         rest = others;

@@ -1,55 +1,43 @@
-ghost use Rattle.std.specs.Prelude.{◌≡◌, ◌++◌, IfOk, OnOk};
-ghost use Rattle.play.specs.declared.exchange.Answer.TheVariants.{Open};
-ghost use Rattle.trace_text.specs.Asks.{ask_for};
+ghost use Rattle.std.specs.Prelude.{◌≡◌, ℕ, ◌++◌, IfOk, OnOk};
 ghost use Rattle.trace_text.specs.Lines.{asked_for, count_of, exchanges_in, exchanges_of, questions, request_of};
 
 use crate::command::Command;
-use play::{Answer, Exchange, Request};
+use play::{Exchange, Request};
 use std::alloc::{AllocError, Global};
 
-// A request that is not answered yet.
-fn open(request: Request) -> Exchange<u32>
-    ensures { result ≡ record { request = request; answer = Open } }
-{
-    Exchange {
-        request,
-        answer: Answer::Open,
+impl Command {
+    // What it calls, once or several times. The whole item table is lent.
+    fn request(self) -> Request
+        ensures { result ≡ request_of self }
+    {
+        let lent = usize::MAX;
+        match self {
+            Command::Prime => Request::Prime { lent },
+            Command::Hold(v) => Request::Hold(v),
+            Command::Step | Command::Steps(_) => Request::Step { lent },
+            Command::Firings(v) => Request::Firings(v),
+            Command::Fill(e) => Request::Fill(e),
+            Command::Front(channel) => Request::Front { channel, lent },
+        }
+    }
+
+    // How often it calls, which is how many exchanges it has.
+    pub(crate) fn count(self) -> usize
+        ensures { result ≡ count_of self }
+    {
+        match self {
+            Command::Steps(n) => n as usize,
+            _ => 1,
+        }
     }
 }
 
-// How often a command calls, and what. The whole item table is lent.
-fn calls(command: Command) -> (Request, usize)
-    ensures what { result.0 ≡ request_of command }
-    ensures often { result.1 ≡ count_of command }
-{
-    let lent = usize::MAX;
-    match command {
-        Command::Prime => (Request::Prime { lent }, 1),
-        Command::Hold(v) => (Request::Hold(v), 1),
-        Command::Step => (Request::Step { lent }, 1),
-        Command::Steps(n) => (Request::Step { lent }, n as usize),
-        Command::Firings(v) => (Request::Firings(v), 1),
-        Command::Fill(e) => (Request::Fill(e), 1),
-        Command::Front(channel) => (Request::Front { channel, lent }, 1),
-    }
-}
-
-// How many exchanges a command has.
-pub(crate) fn count(command: Command) -> usize
-    ensures { result ≡ count_of command }
-{
-    let (_, n) = calls(command);
-    n
-}
-
+// The calls of a command.
 fn add(list: &mut Vec<Exchange<u32>>, command: Command) -> Result<(), AllocError>
     ensures { OnOk result (list.new.items ≡ list.old.items ++ exchanges_of command) }
 {
-    let (request, n) = calls(command);
-    for _i in 0..n {
-        list.push(open(request))?;
-    }
-    Ok(())
+    let long = list.len() + command.count();
+    list.resize(long, Exchange::new(command.request()))
 }
 
 // The calls of some commands.
@@ -62,31 +50,17 @@ fn add_all(list: &mut Vec<Exchange<u32>>, commands: &[Command]) -> Result<(), Al
     Ok(())
 }
 
-// What the table at the end of a trace asks of each module or channel.
-#[derive(Clone, Copy)]
-enum Question {
-    Firings,
-    Fill,
-    Front,
-}
-
-// The question for a number.
-fn ask(question: Question, number: u8) -> Command
-    ensures { result ≡ ask_for question number }
-{
-    match question {
-        Question::Firings => Command::Firings(number),
-        Question::Fill => Command::Fill(number),
-        Question::Front => Command::Front(number),
-    }
-}
-
 // A question for each number from 1 on.
-fn add_each(list: &mut Vec<Exchange<u32>>, question: Question, count: u8) -> Result<(), AllocError>
-    ensures { OnOk result (list.new.items ≡ list.old.items ++ questions (ask_for question) count) }
+fn add_each<F: Fn(u8) -> Command>(
+    list: &mut Vec<Exchange<u32>>,
+    count: u8,
+    ask: F,
+) -> Result<(), AllocError>
+    requires { F.IsAlwaysCallable ask }
+    ensures { (asks : ℕ → Command) → ((k : ℕ) (c : _) → F.post ask k c → c ≡ asks k) → OnOk result (list.new.items ≡ list.old.items ++ questions asks count) }
 {
-    for number in 0..count {
-        add(list, ask(question, number + 1))?;
+    for number in 1..=count {
+        add(list, ask(number))?;
     }
     Ok(())
 }
@@ -103,8 +77,8 @@ pub(crate) fn requests_of(
 {
     let mut list = Vec::new(heap);
     add_all(&mut list, commands)?;
-    add_each(&mut list, Question::Firings, modules)?;
-    add_each(&mut list, Question::Fill, channels)?;
-    add_each(&mut list, Question::Front, channels)?;
+    add_each(&mut list, modules, Command::Firings)?;
+    add_each(&mut list, channels, Command::Fill)?;
+    add_each(&mut list, channels, Command::Front)?;
     Ok(list)
 }

@@ -1,11 +1,12 @@
-ghost use Rattle.std.specs.Prelude.{◌≡◌, ◌+◌, ◌≤◌, ◌++◌, length, IfOk, string_bytes, OnOk};
+ghost use Rattle.std.specs.Prelude.{◌≡◌, ◌≤◌, ◌++◌, length, IfOk, string_bytes, OnOk};
 ghost use Rattle.netlist.specs.Holds.{entry_of};
 ghost use Rattle.report.specs.Lines.{numbered};
-ghost use Rattle.trace_text.specs.Lines.{channel_line, channel_of, fired_line, fired_of, front_words};
+ghost use Rattle.trace_text.specs.Lines.{channel_line, channel_of, fired_line, fired_of};
 
-use crate::answers::answer_text;
+use crate::answers::{Front, Told};
 use netlist::Module;
-use play::{Answer, Exchange};
+use play::Exchange;
+use report::add_lines;
 use std::alloc::{AllocError, Global};
 
 // The line of a module: its number, its name and its firings.
@@ -18,8 +19,8 @@ fn module_text(
     ensures { IfOk result (λ s. string_bytes s ≡ fired_of number (entry_of «module».now) firings) }
 {
     let name = module.name.as_str();
-    let answer = answer_text(heap, firings.answer)?;
-    format!(in heap; "module {number} {name} fired {answer}\n")
+    let count = Told(firings.answer);
+    format!(in heap; "module {number} {name} fired {count}\n")
 }
 
 // A line for each module.
@@ -32,21 +33,9 @@ pub(crate) fn add_firings(
     requires { length modules.now ≤ length firings.now }
     ensures { OnOk result (string_bytes text.new ≡ string_bytes text.old ++ numbered (λ k m. fired_line firings.now k (entry_of m)) 1 modules.now) }
 {
-    for (at, module) in modules.iter().enumerate() {
-        let line = module_text(heap, at + 1, module, firings[at])?;
-        text.push_str(line.as_str())?;
-    }
-    Ok(())
-}
-
-// The item at the front of a channel, or none.
-fn front_text(heap: Global, front: Answer<u32>) -> Result<String, AllocError>
-    ensures { IfOk result (λ s. string_bytes s ≡ front_words front) }
-{
-    match front {
-        Answer::Item(item) => format!(in heap; "{item}"),
-        _ => format!(in heap; "none"),
-    }
+    add_lines(text, modules, |number, module| {
+        module_text(heap, number, module, firings[number - 1])
+    })
 }
 
 // The line of a channel: its number, its fill and its front.
@@ -58,8 +47,8 @@ fn channel_text(
 ) -> Result<String, AllocError>
     ensures { IfOk result (λ s. string_bytes s ≡ channel_of number fill front) }
 {
-    let items = answer_text(heap, fill.answer)?;
-    let oldest = front_text(heap, front.answer)?;
+    let items = Told(fill.answer);
+    let oldest = Front(front.answer);
     format!(in heap; "channel {number} fill {items} front {oldest}\n")
 }
 
@@ -73,9 +62,7 @@ pub(crate) fn add_fills(
     requires { length fills.now ≤ length fronts.now }
     ensures { OnOk result (string_bytes text.new ≡ string_bytes text.old ++ numbered (channel_line fronts.now) 1 fills.now) }
 {
-    for (at, fill) in fills.iter().enumerate() {
-        let line = channel_text(heap, at + 1, *fill, fronts[at])?;
-        text.push_str(line.as_str())?;
-    }
-    Ok(())
+    add_lines(text, fills, |number, fill| {
+        channel_text(heap, number, *fill, fronts[number - 1])
+    })
 }

@@ -1,5 +1,6 @@
 ghost use Rattle.std.specs.Prelude.{◌≡◌, ◌+◌, ◌++◌, length, IfOk, string_bytes, OnOk};
 ghost use Rattle.trace_text.specs.Lines.{calls_in, trace_lines};
+ghost use Rattle.report.specs.Files.{Tells};
 ghost use Rattle.report.specs.Texts.{Prints};
 ghost use Rattle.trace_text.specs.Traces.{TraceText};
 
@@ -9,15 +10,13 @@ use crate::requests::requests_of;
 use crate::table::{add_fills, add_firings};
 use checking::check;
 use cores::SumSet;
-use netlist::{Module, Netlist, ReadError, read};
+use netlist::{Module, ReadError};
 use play::{Exchange, trial};
-use report::{Request, add_deepened};
+use report::{NetlistFile, Request, add_deepened, or_refusal};
 use std::alloc::{AllocError, Global};
 
-// As many queue sizes as a netlist can have channels.
-const CHANNELS: usize = 192;
-
-// As many items as their queues can hold, and one more in each.
+// As many items as the queues of the most channels that a netlist can have can hold, and one more in each. The table is an array of
+// that length, as the definition of the text says: a Vec would be no plainer.
 const ITEMS: usize = 3264;
 
 /// The lines of a trace of a netlist file: the slots added for a target, the queues that became deeper, each command with its answer, the
@@ -30,72 +29,53 @@ pub fn trace_text(
 ) -> Result<String, AllocError>
     ensures { IfOk result (λ text. Prints (TraceText request commands.now) file.now (string_bytes text)) }
 {
-    let mut netlist = Netlist::new(heap)?;
-    let mut table = [1; CHANNELS];
-    match read(heap, file, &mut netlist, &mut table) {
-        Ok(()) => {}
-        Err(ReadError::Refused(refusal)) => return format!(in heap; "{refusal}\n"),
-        Err(ReadError::NoMemory) => return Err(AllocError),
-    }
-    let channels = netlist.channels().len();
-    let mut sizing = table;
-    netlist_text(
-        heap,
-        &netlist,
-        request,
-        commands,
-        &table[0..channels],
-        &mut sizing[0..channels],
-    )
+    let told = NetlistFile::read(heap, file).and_then(|file| netlist_text(
+        heap, &file, request, commands,
+    ));
+    or_refusal(heap, told)
 }
 
-// The same of a netlist and a sizing, of which `sizing` is a copy to change.
+// The same of a file that was read.
 fn netlist_text(
     heap: Global,
-    netlist: &Netlist,
+    file: &NetlistFile,
     request: Request,
     commands: &[Command],
-    before: &[u8],
-    sizing: &mut [u8],
-) -> Result<String, AllocError>
-    requires { sizing.old ≡ before.now }
-    ensures { IfOk result (λ text. TraceText request commands.now netlist.now before.now (string_bytes text)) }
+) -> Result<String, ReadError>
+    ensures { Tells (TraceText request commands.now file.now.netlist file.now.sizing.items) result }
 {
-    let checked = match check(netlist) {
-        Ok(checked) => checked,
-        Err(refusal) => return format!(in heap; "{refusal}\n"),
-    };
-    let modules = netlist.modules().len();
+    let netlist = file.netlist();
+    let before = file.sizing();
+    let checked = check(netlist)?;
+    let modules = netlist.modules();
     let channels = netlist.channels().len();
-    let mut exchanges = requests_of(heap, commands, modules as u8, channels as u8)?;
-    let caps = [request.cap; CHANNELS];
+    let mut exchanges = requests_of(heap, commands, modules.len() as u8, channels as u8)?;
+    let caps = vec![in heap; request.cap; channels]?;
+    let mut table = before.to_vec(heap)?;
+    let sizing = table.as_mut_slice();
     let mut items = [0; ITEMS];
     let (added, _) = trial(
         checked,
         request.target,
-        &caps[0..channels],
+        caps.as_slice(),
         request.allowance,
         sizing,
         SumSet::new(),
         exchanges.as_mut_slice(),
         &mut items,
     );
-    match added {
-        Ok(added) => {
-            let mut text = format!(in heap; "added {added}\n")?;
-            add_deepened(heap, &mut text, before, sizing)?;
-            add_exchanges(
-                heap,
-                &mut text,
-                commands,
-                netlist.modules(),
-                channels,
-                exchanges.as_slice(),
-            )?;
-            Ok(text)
-        }
-        Err(refusal) => format!(in heap; "{refusal}\n"),
-    }
+    let added = added?;
+    let mut text = format!(in heap; "added {added}\n")?;
+    add_deepened(heap, &mut text, before, sizing)?;
+    add_exchanges(
+        heap,
+        &mut text,
+        commands,
+        modules,
+        channels,
+        exchanges.as_slice(),
+    )?;
+    Ok(text)
 }
 
 // The lines of the commands, and behind them the table of the modules and the channels.

@@ -1,11 +1,8 @@
 use Rattle.std.proofs.Common.{false, length, get_or, arith}
 use Rattle.netlist.specs.Holds.{modules}
 use Rattle.checking.specs.Nets.{Joined, Joins}
-use Rattle.checking.proofs.Fills.{entry_of_module, first_alone, table_fits}
+use Rattle.checking.proofs.Fills.{entry_of_module, first_alone}
 use Rattle.checking.proofs.apart.join.Goals as goal
-
-pub slice_bounds-cells-end : goal.slice_bounds-cells-end
-slice_bounds-cells-end c = table_fits c.args.netlist.now c.modules-n.result.now c.modules-n.ensures
 
 pub returns : goal.returns
 returns c = λ v h.

@@ -1,23 +1,17 @@
-use Rattle.std.proofs.Common.{◌≡◌, arith}
-use Rattle.marked.specs.Graphs.{at}
-use Rattle.forecasting.proofs.Tables.{lightest_more, lightest_other}
+use Rattle.std.proofs.Common.{◌≡◌, ◌-◌, ◌^◌, ◌⊎◌, inl, inr, ap, ◌∙◌}
+use Rattle.scale.specs.declared.elements.Total.{Total}
+use Rattle.forecasting.proofs.Tables.{lightest_is}
 use Rattle.forecasting.proofs.weights.lightest.Goals as goal
-use Rattle.forecasting.proofs.weights.lightest.Goals.{then-place-from+then-place-to, else-place-from, else-place-from-via-then-place-from+else-place-to, else-place-from-via-else-place-from}
+use Rattle.forecasting.proofs.weights.lightest.Goals.{then-from-to, else-from-to}
 
-pub loop-place-preserved : goal.loop-place-preserved
-loop-place-preserved c =
-    let G = c.args.places.now in
-    let i = c.loop-place.place-index in
+pub returns : goal.returns
+returns c =
     let u = c.args.from in
     let v = c.args.to in
-    let r = c.loop-place.least in
-    elim c.if-place-from.branch [
-      | then-place-from+then-place-to w ↦ rw (w.least-is, w.min-least.ensures) (lightest_more G i u v r c.loop-place.invariant.0 w.if-place-from.true w.if-place-to.true, omega (arith, c.loop-place.invariant.1))
-      | else-place-from w ↦
-          let other : (at G i).from ≡ u → (at G i).to ≡ v → ⊥ =
-          elim w.else-place-from.branch [
-            | else-place-from-via-then-place-from+else-place-to w' ↦ λ from to. w'.if-place-to.false to
-            | else-place-from-via-else-place-from w' ↦ λ from to. w'.if-place-from.false from
-          ] in
-          rw w.least-is (lightest_other G i u v r c.loop-place.invariant.0 other, c.loop-place.invariant.1)
-    ]
+    let first = c.if-from-to.first in
+    let start : ((u ≡ v) × (first ≡ 1)) ⊎ ((u ≡ v → ⊥) × (first ≡ 2 ^ 32 - 1)) =
+    elim c.if-from-to.branch [
+      | then-from-to w ↦ inl (w.if-from-to.true, w.first-is)
+      | else-from-to w ↦ inr (w.if-from-to.false, w.first-is ∙ ap (λ (t : Total). t.sum) w.no_way.ensures)
+    ] in
+    rw c.least_tokens.ensures (lightest_is u v c.args.places.now first start)

@@ -25,14 +25,6 @@ walk_back-requires c = record {
   room = omega arith;
 }
 
-pub loop-k-preserved : goal.loop-k-preserved
-loop-k-preserved c = (
-  rounds_more _ _ _ _ (omega arith) c.loop-k.invariant.0 c.next-next.ensures,
-  c.in_default-walk_back.ensures.0,
-  c.loop-k.invariant.2,
-  c.in_default-walk_back.ensures.1 ∙ c.loop-k.invariant.3,
-)
-
 pub loop-k-preserved-then-k-ne3 : goal.loop-k-preserved-then-k-ne3
 loop-k-preserved-then-k-ne3 c = (
   rounds_more _ _ _ _ (omega arith) c.loop-k.invariant.0 c.next-next.ensures,

@@ -1,96 +1,65 @@
-use Rattle.std.proofs.Common.{◌≡◌, ℕ, ◌-◌, true, false, ◌++◌, length, drop, Option, Result, sym, ap, ◌∙◌, subst}
-use Rattle.std.specs.List.{between}
-use Rattle.netlist.specs.declared.refusal.Refusal.{Refusal}
-use Rattle.calls.specs.Calls.{Call, Count, after, done, fill, firings, front, hold, prime, refusal, step}
-use Rattle.run.specs.Replies.{reply}
-use Rattle.run.specs.Tells.{Tells}
-use Rattle.play.specs.Answers.{answer, as_done, as_item, as_number, asked}
-use Rattle.play.proofs.Lending.{front_lent, lend, lent_counts, part_length, prime_enough, step_enough}
-use Rattle.play.proofs.Listing.{settled, unless_same}
+use Rattle.std.proofs.Common.{true, length, min}
+use Rattle.std.proofs.lemmas.Result.{err_from_is_err_and}
+use Rattle.calls.specs.Calls.{prime, refusal, step}
+use Rattle.run.specs.Replies.{front_item}
+use Rattle.play.specs.declared.exchange.Reply.TheVariants.{Done, Item}
+use Rattle.play.proofs.Lending.{front_lent, lent_call, prime_enough, step_enough}
+use Rattle.play.proofs.Listing.{accepted_too, refused_too, unless_same}
 use Rattle.play.proofs.plays.ask.Goals as goal
 
-pub returns-in-Prime : goal.returns-in-Prime
-returns-in-Prime g c = λ chip k before td.
+pub returns-in_err-prime-in-Prime : goal.returns-in_err-prime-in-Prime
+returns-in_err-prime-in-Prime g c = λ chip k before td.
     let m = g.C.CoreSet in
     let t = c.args.table.now in
-    let n = c.lent-n.result in
-    let p = between 0 n t in
-    let p' = c.prime.new.table in
-    let run = c.args.run.now in
-    let len : length p ≡ n = part_length n t c.lent-n.ensures.within in
-    let counts = c.prime.ensures.told false chip k p (lent_counts m.rules m.held chip k before run t td p) in
-    let replied : c.prime.result ≡ reply (refusal chip.net k (prime n)) tt = counts.0 ∙ ap (λ (i : ℕ). reply {X = Unit {0}} (refusal chip.net k (prime i)) tt) len in
-    let which : prime n ≡ asked (length t) c.args.request = ap prime c.lent-n.ensures.is ∙ ap (asked (length t)) (sym c.in-Prime.is) in
-    subst (λ (x : Call). (c.done.result ≡ answer chip k x) × Tells true m.rules m.held chip (after chip.net k x) before c.prime.new.self (p' ++ drop (n - 0) (drop 0 t))) which (
-      c.done.ensures ∙ ap (λ (r : Result (Unit {0}) Refusal). as_done r) replied,
-      lend m.rules m.held chip k before run t td n (done chip.net k (prime n)) (refusal chip.net k (prime n)) c.prime.result c.prime.new.self p' replied (c.prime.auto.table ∙ len) (prime_enough chip k n)
-          c.prime.ensures.refused (λ td₁. (c.prime.ensures.told true chip k (between 0 n before) td₁).1),
-    )
+    let call = prime (min c.in-Prime.n (length t)) in
+    let told = lent_call m.rules m.held chip k before c.args.run.now t td prime c.in-Prime.n c.lent-n.result c.prime.result c.prime.new.self c.prime.new.table (prime_enough chip k)
+    c.lent-n.ensures.is c.lent-n.ensures.within c.prime.auto.table (λ ok start. c.prime.ensures.told ok chip k start) c.prime.ensures.refused in
+    let gave = err_from_is_err_and c.from_residual.result c.from_residual.ensures.1 in
+    rw (c.in-Prime.is, gave.1, gave.2) (refused_too (refusal chip.net k call) c.prime.result _ tt Done c.in_err-prime-in-Prime.was told.0, told.1)
 
-pub returns-in-Step : goal.returns-in-Step
-returns-in-Step g c = λ chip k before td.
+pub returns-in_ok-prime-in-Prime : goal.returns-in_ok-prime-in-Prime
+returns-in_ok-prime-in-Prime g c = λ chip k before td.
     let m = g.C.CoreSet in
     let t = c.args.table.now in
-    let n = c.lent-n-in-Step.result in
-    let p = between 0 n t in
-    let p' = c.step.new.table in
-    let run = c.args.run.now in
-    let len : length p ≡ n = part_length n t c.lent-n-in-Step.ensures.within in
-    let counts = c.step.ensures.told false chip k p (lent_counts m.rules m.held chip k before run t td p) in
-    let replied : c.step.result ≡ reply (refusal chip.net k (step n)) tt = counts.0 ∙ ap (λ (i : ℕ). reply {X = Unit {0}} (refusal chip.net k (step i)) tt) len in
-    let which : step n ≡ asked (length t) c.args.request = ap step c.lent-n-in-Step.ensures.is ∙ ap (asked (length t)) (sym c.in-Step.is) in
-    subst (λ (x : Call). (c.done-in-Step.result ≡ answer chip k x) × Tells true m.rules m.held chip (after chip.net k x) before c.step.new.self (p' ++ drop (n - 0) (drop 0 t))) which (
-      c.done-in-Step.ensures ∙ ap (λ (r : Result (Unit {0}) Refusal). as_done r) replied,
-      lend m.rules m.held chip k before run t td n (done chip.net k (step n)) (refusal chip.net k (step n)) c.step.result c.step.new.self p' replied (c.step.auto.table ∙ len) (step_enough chip k n)
-          c.step.ensures.refused (λ td₁. (c.step.ensures.told true chip k (between 0 n before) td₁).1),
-    )
+    let call = prime (min c.in-Prime.n (length t)) in
+    let told = lent_call m.rules m.held chip k before c.args.run.now t td prime c.in-Prime.n c.lent-n.result c.prime.result c.prime.new.self c.prime.new.table (prime_enough chip k)
+    c.lent-n.ensures.is c.lent-n.ensures.within c.prime.auto.table (λ ok start. c.prime.ensures.told ok chip k start) c.prime.ensures.refused in
+    rw c.in-Prime.is (accepted_too (refusal chip.net k call) c.prime.result tt _ (λ _. Done) c.in_ok-prime-in-Prime.was told.0, told.1)
 
-pub returns-in-Hold : goal.returns-in-Hold
-returns-in-Hold g c = λ chip k before td.
+pub returns-in_err-step-in-Step : goal.returns-in_err-step-in-Step
+returns-in_err-step-in-Step g c = λ chip k before td.
     let m = g.C.CoreSet in
     let t = c.args.table.now in
-    let v = c.in-Hold.v in
-    let told = c.hold.ensures.told true chip k before t td in
-    let which : hold v ≡ asked (length t) c.args.request = ap (asked (length t)) (sym c.in-Hold.is) in
-    subst (λ (x : Call). (c.done-in-Hold.result ≡ answer chip k x) × Tells true m.rules m.held chip (after chip.net k x) before c.hold.new.self t) which (
-      c.done-in-Hold.ensures ∙ ap (λ (r : Result (Unit {0}) Refusal). as_done r) told.0,
-      subst (λ (d : Count). Tells true m.rules m.held chip d before c.hold.new.self t)
-          (settled (refusal chip.net k (hold v)) c.hold.result k (done chip.net k (hold v)) told.0) told.1,
-    )
+    let call = step (min c.in-Step.n (length t)) in
+    let told = lent_call m.rules m.held chip k before c.args.run.now t td step c.in-Step.n c.lent-n-in-Step.result c.step.result c.step.new.self c.step.new.table (step_enough chip k)
+    c.lent-n-in-Step.ensures.is c.lent-n-in-Step.ensures.within c.step.auto.table (λ ok start. c.step.ensures.told ok chip k start) c.step.ensures.refused in
+    let gave = err_from_is_err_and c.from_residual-in_err-step-in-Step.result c.from_residual-in_err-step-in-Step.ensures.1 in
+    rw (c.in-Step.is, gave.1, gave.2) (refused_too (refusal chip.net k call) c.step.result _ tt Done c.in_err-step-in-Step.was told.0, told.1)
 
-pub returns-in-Firings : goal.returns-in-Firings
-returns-in-Firings g c = λ chip k before td.
+pub returns-in_ok-step-in-Step : goal.returns-in_ok-step-in-Step
+returns-in_ok-step-in-Step g c = λ chip k before td.
     let m = g.C.CoreSet in
     let t = c.args.table.now in
-    let v = c.in-Firings.v in
-    let which : firings v ≡ asked (length t) c.args.request = ap (asked (length t)) (sym c.in-Firings.is) in
-    subst (λ (x : Call). (c.number.result ≡ answer chip k x) × Tells true m.rules m.held chip (after chip.net k x) before c.args.run.now t) which (
-      c.number.ensures ∙ ap (λ (r : Result ℕ Refusal). as_number r) (c.firings.ensures true chip k before t td),
-      subst (λ (d : Count). Tells true m.rules m.held chip d before c.args.run.now t) (sym (unless_same (refusal chip.net k (firings v)) k)) td,
-    )
+    let call = step (min c.in-Step.n (length t)) in
+    let told = lent_call m.rules m.held chip k before c.args.run.now t td step c.in-Step.n c.lent-n-in-Step.result c.step.result c.step.new.self c.step.new.table (step_enough chip k)
+    c.lent-n-in-Step.ensures.is c.lent-n-in-Step.ensures.within c.step.auto.table (λ ok start. c.step.ensures.told ok chip k start) c.step.ensures.refused in
+    rw c.in-Step.is (accepted_too (refusal chip.net k call) c.step.result tt _ (λ _. Done) c.in_ok-step-in-Step.was told.0, told.1)
 
-pub returns-in-Fill : goal.returns-in-Fill
-returns-in-Fill g c = λ chip k before td.
+pub returns-in_err-front-in-Front : goal.returns-in_err-front-in-Front
+returns-in_err-front-in-Front g c = λ chip k before td.
     let m = g.C.CoreSet in
     let t = c.args.table.now in
-    let e = c.in-Fill.e in
-    let which : fill e ≡ asked (length t) c.args.request = ap (asked (length t)) (sym c.in-Fill.is) in
-    subst (λ (x : Call). (c.number-in-Fill.result ≡ answer chip k x) × Tells true m.rules m.held chip (after chip.net k x) before c.args.run.now t) which (
-      c.number-in-Fill.ensures ∙ c.fill.ensures chip k before t td,
-      subst (λ (d : Count). Tells true m.rules m.held chip d before c.args.run.now t) (sym (unless_same (refusal chip.net k (fill e)) k)) td,
-    )
-
-pub returns-in-Front : goal.returns-in-Front
-returns-in-Front g c = λ chip k before td.
-    let m = g.C.CoreSet in
-    let t = c.args.table.now in
-    let n = c.lent-n-in-Front.result in
     let e = c.in-Front.channel in
-    let run = c.args.run.now in
-    let which : front e n ≡ asked (length t) c.args.request = ap (front e) c.lent-n-in-Front.ensures.is ∙ ap (asked (length t)) (sym c.in-Front.is) in
-    let told = front_lent m.rules m.held chip k before run t td e n c.front.result c.lent-n-in-Front.ensures.within
-    (c.front.ensures.told chip k (between 0 n before)) (c.front.ensures.short true chip k before t td) in
-    subst (λ (x : Call). (c.item.result ≡ answer chip k x) × Tells true m.rules m.held chip (after chip.net k x) before run t) which (
-      c.item.ensures ∙ ap (λ (r : Result (Option g.row.C-Item.Denot) Refusal). as_item r) told,
-      subst (λ (d : Count). Tells true m.rules m.held chip d before run t) (sym (unless_same (refusal chip.net k (front e n)) k)) td,
-    )
+    let told = front_lent m.rules m.held chip k before c.args.run.now t td e c.in-Front.n c.lent-n-in-Front.result c.front.result c.lent-n-in-Front.ensures.is c.lent-n-in-Front.ensures.within
+    (c.front.ensures.told chip k _) (c.front.ensures.short true chip k before t td) in
+    let gave = err_from_is_err_and c.from_residual-in_err-front-in-Front.result c.from_residual-in_err-front-in-Front.ensures.1 in
+    rw (c.in-Front.is, gave.1, gave.2, unless_same) (refused_too _ c.front.result _ _ (Item (front_item chip k e)) c.in_err-front-in-Front.was told, td)
+
+pub returns-in_ok-front-in-Front : goal.returns-in_ok-front-in-Front
+returns-in_ok-front-in-Front g c = λ chip k before td.
+    let m = g.C.CoreSet in
+    let t = c.args.table.now in
+    let e = c.in-Front.channel in
+    let told = front_lent m.rules m.held chip k before c.args.run.now t td e c.in-Front.n c.lent-n-in-Front.result c.front.result c.lent-n-in-Front.ensures.is c.lent-n-in-Front.ensures.within
+    (c.front.ensures.told chip k _) (c.front.ensures.short true chip k before t td) in
+    rw (c.in-Front.is, unless_same) (accepted_too _ c.front.result _ _ (λ x. Item x) c.in_ok-front-in-Front.was told, td)

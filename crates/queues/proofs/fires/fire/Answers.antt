@@ -19,7 +19,6 @@ returns-then-block g c =
     let t₂ = c.scatter.new.table in
     let kept = kept_trans w₂ w₁ w₀ c.scatter.ensures.kept c.gather.ensures.kept in
     record {
-      laid = c.scatter.ensures.laid;
       kept = kept;
       told = λ ok before chip f st blk en.
           let took = λ (e : ℕ). f (chip.net.sink e) in
@@ -43,7 +42,6 @@ returns-else-block g c =
     let v = c.args.v.value in
     let t₂ = c.relay.new.table in
     record {
-      laid = c.relay.ensures.laid;
       kept = c.relay.ensures.kept;
       told = λ ok before chip f st blk en.
           let took = λ (e : ℕ). f (chip.net.sink e) in

@@ -1,7 +1,8 @@
 use Rattle.std.proofs.Common.{◌≡◌, ℕ, suc, ◌≤◌, map, get_or, take}
 use Rattle.rating.proofs.numbers.put_numbers.Given as goal
 
-abbrev pub invariant-loop-at : goal.invariant-loop-at
-invariant-loop-at l =
-    (take l.at l.numbers ≡ map suc (take l.at l.walk))
-    × ((k : ℕ) → l.at ≤ k → get_or l.numbers k 0 ≡ get_or l.initial.numbers k 0)
+-- the numbers so far are put, and the places after them are as in the walk
+abbrev pub invariant-loop-number : goal.invariant-loop-number
+invariant-loop-number l =
+    (take l.number-index l.front ≡ map suc (take l.number-index l.walk))
+    × ((k : ℕ) → l.number-index ≤ k → get_or l.front k 0 ≡ get_or l.walk k 0)

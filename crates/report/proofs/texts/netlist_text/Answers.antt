@@ -1,9 +1,9 @@
-use Rattle.std.proofs.Common.{inl, inr}
-use Rattle.report.proofs.Printed.{made_of, rated_as}
+use Rattle.std.proofs.Common.{inr}
+use Rattle.report.specs.Texts.{NetlistText}
+use Rattle.report.proofs.Printed.{check_told}
 use Rattle.report.proofs.texts.netlist_text.Goals as goal
 
-pub returns-in-Err : goal.returns-in-Err
-returns-in-Err c = made_of c.format.result _ _ c.format.ensures.ok (λ s e. inr (c.in-Err.refusal, c.in-Err.ensures, e))
-
-pub returns-in-Ok : goal.returns-in-Ok
-returns-in-Ok c = made_of c.checked_text.result _ _ c.checked_text.ensures (λ s h. inl (rated_as _ _ _ _ c.in-Ok.ensures.0 h))
+pub returns-in_err-checked : goal.returns-in_err-checked
+returns-in_err-checked c =
+    let file = c.args.file.now in
+    check_told (NetlistText file.netlist file.sizing.items) file.netlist _ _ c.in_err-checked.field-0.0 (λ text h. inr h) c.netlist.ensures c.in_err-checked.ensures c.from_residual.ensures.1

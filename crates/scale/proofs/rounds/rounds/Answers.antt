@@ -1,12 +1,9 @@
 use Rattle.std.proofs.Common.{◌≡◌, ◌<◌, length, ◌∙◌, arith}
 use Rattle.scale.specs.Rounds.{AllWalks}
-use Rattle.scale.proofs.Choices.{over_none, over_next}
+use Rattle.scale.proofs.Choices.{over_next}
 use Rattle.scale.proofs.Once.{every_walk_once}
 use Rattle.scale.proofs.Order.{any_order}
 use Rattle.scale.proofs.rounds.rounds.Goals as goal
-
-pub loop-init : goal.loop-init
-loop-init g c = λ v _. over_none g.S.Scale.scale c.args.elements.now c.args.weights.now v
 
 pub loop-preserved : goal.loop-preserved
 loop-preserved g c = λ v h.

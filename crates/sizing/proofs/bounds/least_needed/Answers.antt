@@ -1,37 +1,43 @@
-use Rattle.std.proofs.Common.{arith}
+use Rattle.std.proofs.Common.{◌≡◌, ℕ, List, None, ◌∙◌, arith}
+use Rattle.netlist.specs.declared.netlist.Netlist.{Netlist}
+use Rattle.netlist.specs.Holds.{channels}
+use Rattle.rating.specs.Sizings.{sizing_fault}
+use Rattle.sizing.specs.Candidates.{AtLeast}
+use Rattle.sizing.specs.Trials.{Low, Ready}
 use Rattle.sizing.proofs.Charging.{charged}
-use Rattle.sizing.proofs.Deeper.{found_covers}
+use Rattle.sizing.proofs.Deeper.{lent_covers}
 use Rattle.sizing.proofs.Readying.{ready_between}
 use Rattle.sizing.proofs.Tables.{least_trans}
 use Rattle.sizing.proofs.bounds.least_needed.Goals as goal
 
-pub slow_cycle_with_tokens-requires : goal.slow_cycle_with_tokens-requires
-slow_cycle_with_tokens-requires c =
-    let n = c.args.aim.netlist.now in
-    let ready = ready_between n c.args.aim.target.0 c.args.aim.target.1 c.args.aim.caps.now c.args.sizes.now c.loop-need.raised c.requires.ready c.loop-need.invariant.0 c.loop-need.invariant.1 in
-    record { sized = ready.sized; target = (ready.proper, ready.small); room = n.some.1 }
+-- every raised table is a sizing under the caps
+between : (n : Netlist) (caps sizes raised : List ℕ) → Low caps → sizing_fault (channels n) sizes ≡ None → AtLeast sizes caps → AtLeast sizes raised → AtLeast raised caps → Ready n caps raised
+between n caps sizes raised low tested most above under = ready_between n caps sizes raised low (record { sized = tested; under = most }) above under
+
+pub new-deeper-requires : goal.new-deeper-requires
+new-deeper-requires c =
+    rw c.netlist.ensures (between c.args.chip.netlist.now c.args.aim.caps.now c.args.chip.sizing.now c.loop-need.raised c.args.aim.low c.args.chip.tested c.requires c.loop-need.invariant.0 c.loop-need.invariant.1).sized
 
 pub lift-requires : goal.lift-requires
 lift-requires c =
-    let n = c.args.aim.netlist.now in
-    let ready = ready_between n c.args.aim.target.0 c.args.aim.target.1 c.args.aim.caps.now c.args.sizes.now c.loop-need.raised c.requires.ready c.loop-need.invariant.0 c.loop-need.invariant.1 in
+    let ready = between c.args.chip.netlist.now c.args.aim.caps.now c.args.chip.sizing.now c.loop-need.raised c.args.aim.low c.args.chip.tested c.requires c.loop-need.invariant.0 c.loop-need.invariant.1 in
     record {
-      within = (found_covers n c.args.aim.target.0 c.args.aim.target.1 c.args.aim.caps.now c.loop-need.raised ready _ c.slow_cycle_with_tokens.new.cycle c.in-Some.slow.length c.in-Some.ensures.0).places;
+      within = (lent_covers (c.new-deeper.ensures.netlist ∙ c.netlist.ensures) c.new-deeper.ensures.sizing ready c.in-Some.ensures.0).places;
       under = c.loop-need.invariant.1;
     }
 
 pub loop-need-preserved : goal.loop-need-preserved
 loop-need-preserved c =
-    let n = c.args.aim.netlist.now in
-    let a = c.args.aim.target.0 in
-    let b = c.args.aim.target.1 in
+    let n = c.args.chip.netlist.now in
+    let a = c.args.aim.target.a in
+    let b = c.args.aim.target.b in
     let caps = c.args.aim.caps.now in
-    let sizes = c.args.sizes.now in
+    let sizes = c.args.chip.sizing.now in
     let raised = c.loop-need.raised in
     let cycle = c.slow_cycle_with_tokens.new.cycle in
     let slow = c.in-Some.slow in
-    let found = c.in-Some.ensures in
-    let ready = ready_between n a b caps sizes raised c.requires.ready c.loop-need.invariant.0 c.loop-need.invariant.1 in (
+    let found = rw (c.new-deeper.ensures.netlist ∙ c.netlist.ensures, c.new-deeper.ensures.sizing) at c.in-Some.ensures in
+    let ready = between n caps sizes raised c.args.aim.low c.args.chip.tested c.requires c.loop-need.invariant.0 c.loop-need.invariant.1 in (
       least_trans sizes raised c.lift.new.sizes c.loop-need.invariant.0 c.lift.ensures.above,
       c.lift.ensures.under,
       λ t over under good.

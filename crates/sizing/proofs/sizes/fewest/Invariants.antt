@@ -6,5 +6,5 @@ use Rattle.sizing.proofs.sizes.fewest.Given as goal
 abbrev pub invariant-loop-slots : goal.invariant-loop-slots
 invariant-loop-slots l =
     (l.sizing ≡ l.initial.sizing)
-    × ((t : List ℕ) → AtLeast l.initial.sizing t → AtLeast t l.aim.caps.now → Reaching l.aim.netlist.now l.aim.target.0 l.aim.target.1 t
+    × ((t : List ℕ) → AtLeast l.initial.sizing t → AtLeast t l.aim.caps.now → Reaching l.aim.netlist.now l.aim.target.a l.aim.target.b t
     → l.slots ≤ added l.initial.sizing t)

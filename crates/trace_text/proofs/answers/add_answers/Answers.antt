@@ -4,10 +4,6 @@ use Rattle.trace_text.specs.Lines.{answer_lines}
 use Rattle.trace_text.proofs.Answering.{answers_more, calls_step}
 use Rattle.trace_text.proofs.answers.add_answers.Goals as goal
 
-pub split_at-requires : goal.split_at-requires
-split_at-requires c =
-    omega (arith, c.count.ensures, calls_step c.args.commands.now c.loop-command.command-index (omega arith), c.loop-command.invariant.1)
-
 pub loop-command-preserved : goal.loop-command-preserved
 loop-command-preserved c =
     let xs = c.loop-command.rest.now in (

@@ -1,10 +1,7 @@
 use Rattle.std.proofs.Common.{vec_items}
 use Rattle.trace_text.specs.declared.command.Command.TheVariants.{Prime}
-use Rattle.trace_text.proofs.Requesting.{all_commands, append-nil, one_command}
+use Rattle.trace_text.proofs.Requesting.{all_commands, one_command}
 use Rattle.trace_text.proofs.requests.add_all.Goals as goal
-
-pub loop-command-init : goal.loop-command-init
-loop-command-init c = append-nil (vec_items c.args.list.now)
 
 pub loop-command-preserved : goal.loop-command-preserved
 loop-command-preserved c = one_command (vec_items c.args.list.now) (vec_items c.loop-command.list) _ c.args.commands.now c.loop-command.command-index Prime c.loop-command-test.true c.in_ok-add.ensures c.loop-command.invariant

@@ -12,7 +12,6 @@ returns-in-Some-take g c =
     let w₂ = c.scatter.new.self in
     let kept = kept_trans w₂ w₁ w₀ c.scatter.ensures.kept c.take.ensures.kept in
     record {
-      laid = c.scatter.ensures.laid;
       kept = kept;
       flow = λ ok before took put stream d fl sole less op.
           let at : c.in-Some.d ≡ d = sole.alone c.in-Some.d c.in-Some.ensures.0 c.in-Some.ensures.1 in

@@ -1,0 +1,13 @@
+use Rattle.std.proofs.Common.{true, false, Decides, refl, rules, tests}
+use Rattle.std.proofs.lemmas.Bool.Decides.{not_from_Decides}
+use Rattle.checking.specs.Faults.{Loose}
+use Rattle.checking.proofs.Fills.{finds}
+use Rattle.checking.proofs.loose.loose_relay.Goals as goal
+
+pub returns : goal.returns
+returns c =
+    let n = c.args.netlist.now in
+    finds n c.modules.result.now (λ v. Loose n v → ⊥) (Loose n) _ _ c.modules.ensures c.lowest.ensures
+    (λ v h s. let d : Decides false (Loose n v) = search (rules, tests) in not_from_Decides false d refl)
+    (λ v h s. let d : Decides true (Loose n v) = search (rules, tests) in d.0 refl)
+    (λ v no yes. no yes)

@@ -1,0 +1,57 @@
+// The extended graph of a netlist under a sizing, with the list that holds its places.
+ghost use Rattle.std.specs.Prelude.{◌≡◌, ◌≤◌, take};
+ghost use Rattle.marked.specs.Limits.{Fit};
+ghost use Rattle.netlist.specs.Holds.{modules};
+ghost use Rattle.rating.specs.Extended.{graph_of};
+
+use crate::extend::extend;
+use crate::sized::SizedNetlist;
+use marked::{Graph, PLACES, Place};
+
+// A place of none, for the entries of a list before it is filled.
+const NOWHERE: Place = Place {
+    from: 0,
+    to: 0,
+    tokens: 0,
+};
+
+/// The extended graph of a netlist under a sizing. Its places are the first `count` of the list, which is an array, since a rating may not
+/// fail for memory.
+#[derive(Drop)]
+pub struct ExtendedGraph {
+    modules: usize,
+    places: [Place; PLACES],
+    count: usize,
+    ghost within: { count ≤ 384 },
+    ghost fit: { Fit modules (take count places) },
+}
+
+impl ExtendedGraph {
+    pub fn of(chip: SizedNetlist) -> ExtendedGraph
+        ensures modules { result.modules ≡ modules chip.entry.netlist.now }
+        ensures places { take result.count result.places ≡ graph_of chip.entry.netlist.now chip.entry.sizing.now }
+    {
+        let mut places = [NOWHERE; PLACES];
+        let count = extend(chip.netlist(), chip.sizing(), &mut places);
+        ExtendedGraph {
+            modules: chip.netlist().modules().len(),
+            places,
+            count,
+        }
+    }
+
+    /// The graph as a list of places.
+    pub fn places(&self) -> &[Place]
+        ensures { result.now ≡ take self.now.count self.now.places }
+    {
+        &self.places[0..self.count]
+    }
+
+    /// The graph.
+    pub fn graph(&self) -> Graph<'_>
+        ensures modules { result.modules ≡ self.now.modules }
+        ensures places { result.places.now ≡ take self.now.count self.now.places }
+    {
+        Graph::new(self.modules, self.places())
+    }
+}
