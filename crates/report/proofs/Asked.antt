@@ -10,7 +10,7 @@ use Rattle.sizing.specs.Answers.{SizeAnswer}
 use Rattle.sizing.proofs.Accepting.{request_low, request_ready}
 use Rattle.sizing.proofs.Readying.{ready_between}
 use Rattle.report.specs.declared.request.Request.{Request}
-use Rattle.report.specs.Files.{Tells}
+use Rattle.report.specs.Files.{OnPrinted}
 use Rattle.report.specs.Lines.{numbered}
 use Rattle.report.specs.Sizes.{RequestText, added_line, deepened_line}
 use Rattle.report.specs.Texts.{RatedText}
@@ -30,8 +30,8 @@ module _ (m n : Netlist) (r : Request) (caps s before : List ℕ) (same : m ≡ 
 
   -- where it was refused, the table is as it was
   pub size_refused : (t : List ℕ) (x : Refusal) (told : Result (String Global) ReadError) → SizeAnswer m r.target.0 r.target.1 caps r.allowance s t (Err x)
-      → IsErrAnd told (λ y. y ≡ Refused x) → Tells (RequestText r n before) told
-  size_refused t x told h e = handed_on (Tells (RequestText r n before)) told (Refused x) e (inr (inr (x, (refl, (asked t (Err x) h).1), refl)))
+      → IsErrAnd told (λ y. y ≡ Refused x) → OnPrinted (RequestText r n before) told
+  size_refused t x told h e = handed_on (OnPrinted (RequestText r n before)) told (Refused x) e (inr (inr (x, (refl, (asked t (Err x) h).1), refl)))
 
   pub sized_text : (t : List ℕ) (k : ℕ) (a b d rating pushed : List ℕ)
       → SizeAnswer m r.target.0 r.target.1 caps r.allowance s t (Ok k)

@@ -20,7 +20,7 @@ use Rattle.rating.specs.Ratings.{Accepted}
 use Rattle.rating.specs.Sizings.{sizing_fault}
 use Rattle.rating.proofs.Sizes.{sizing_good}
 use Rattle.report.specs.declared.file.NetlistFile.{NetlistFile}
-use Rattle.report.specs.Files.{PrintedOf, ReadAs, Tells}
+use Rattle.report.specs.Files.{PrintedOf, ReadAs, OnPrinted}
 use Rattle.report.specs.Lines.{rating_lines, refused}
 use Rattle.report.specs.Texts.{CheckText, FileText, Prints, RatedText}
 
@@ -93,12 +93,12 @@ module _ (file : List ℕ) (n m : Netlist) (was is : List ℕ) (room : 192 ≤ l
 
 -- a refusal of the check is told
 pub check_told : (P : List ℕ → Type 0) (n m : Netlist) (r : Result (String Global) ReadError) (x : Refusal) → ((text : List ℕ) → CheckText n text → P text) → m ≡ n → verdicts.Refused m x
-    → IsErrAnd r (λ y. y ≡ Refused x) → Tells P r
-check_told P n m r x says same h e = handed_on (Tells P) r (Refused x) e (says (refused x) (x, subst (λ (i : Netlist). verdicts.Refused i x) same h, refl))
+    → IsErrAnd r (λ y. y ≡ Refused x) → OnPrinted P r
+check_told P n m r x says same h e = handed_on (OnPrinted P) r (Refused x) e (says (refused x) (x, subst (λ (i : Netlist). verdicts.Refused i x) same h, refl))
 
 -- what is printed of a file is what is told of its netlist and its sizing
 printed : (Text : Netlist → List ℕ → List ℕ → Type 0) (file : List ℕ) (read : Result NetlistFile ReadError) (told : Result (String Global) ReadError) (text : List ℕ) (Post : NetlistFile → Type 0)
-    → ReadAs (verdict file) read → MatchResult read Post (λ e. told ≡ Err e) → ((f : NetlistFile) → Post f → Tells (Text f.netlist (vec_items f.sizing)) told)
+    → ReadAs (verdict file) read → MatchResult read Post (λ e. told ≡ Err e) → ((f : NetlistFile) → Post f → OnPrinted (Text f.netlist (vec_items f.sizing)) told)
     → PrintedOf told text → Prints Text file text
 printed Text file (Ok f) (Ok s) text Post r p says t = subst (λ (v : Result Contents Refusal). FileText Text v text) (sym r.1) (f.netlist, vec_items f.sizing, r.2, r.3, rw t (says f p))
 printed Text file (Ok f) (Err (Refused x)) text Post r p says t = subst (λ (v : Result Contents Refusal). FileText Text v text) (sym r.1) (f.netlist, vec_items f.sizing, r.2, r.3, rw t (says f p))
@@ -108,7 +108,7 @@ printed Text file (Err NoMemory) told text Post r p says t = absurd (rw p at t)
 
 -- and so is the text that was made, if there was memory for it
 pub printed_if : (Text : Netlist → List ℕ → List ℕ → Type 0) (file : List ℕ) (read : Result NetlistFile ReadError) (told : Result (String Global) ReadError) (made : Result (String Global) AllocError) (Post : NetlistFile → Type 0)
-    → ReadAs (verdict file) read → MatchResult read Post (λ e. told ≡ Err e) → ((f : NetlistFile) → Post f → Tells (Text f.netlist (vec_items f.sizing)) told)
+    → ReadAs (verdict file) read → MatchResult read Post (λ e. told ≡ Err e) → ((f : NetlistFile) → Post f → OnPrinted (Text f.netlist (vec_items f.sizing)) told)
     → IfOk made (λ s. PrintedOf told (string_bytes s)) → IfOk made (λ s. Prints Text file (string_bytes s))
 printed_if Text file read told made Post r p says h = made_of made _ _ h (λ s t. printed Text file read told (string_bytes s) Post r p says t)
 

@@ -16,10 +16,10 @@ ReadAs v (Err (Refused x)) = v ≡ Err x
 ReadAs v (Err NoMemory) = ⊤
 
 -- P holds of what is printed: of a text, or of the line of the refusal that stands for it
-abbrev pub Tells : (List ℕ → Type 0) → Result (String Global) ReadError → Type 0
-Tells P (Ok s) = P (string_bytes s)
-Tells P (Err (Refused x)) = P (refused x)
-Tells P (Err NoMemory) = ⊤
+abbrev pub OnPrinted : (List ℕ → Type 0) → Result (String Global) ReadError → Type 0
+OnPrinted P (Ok s) = P (string_bytes s)
+OnPrinted P (Err (Refused x)) = P (refused x)
+OnPrinted P (Err NoMemory) = ⊤
 
 -- and this is what is printed
 abbrev pub PrintedOf : Result (String Global) ReadError → List ℕ → Type 0

@@ -1,5 +1,5 @@
 ghost use Rattle.std.specs.Prelude.{◌≡◌, ◌≤◌, ◌++◌, length, IfOk, string_bytes, OnOk};
-ghost use Rattle.report.specs.Files.{Tells};
+ghost use Rattle.report.specs.Files.{OnPrinted};
 ghost use Rattle.report.specs.Lines.{numbered};
 ghost use Rattle.report.specs.Sizes.{RequestText, deepened, deepened_line};
 ghost use Rattle.report.specs.Texts.{Prints};
@@ -25,7 +25,7 @@ pub fn size_text(heap: Global, file: &[u8], request: Request) -> Result<String, 
 
 // The same of a file that was read.
 fn request_text(heap: Global, file: &NetlistFile, request: Request) -> Result<String, ReadError>
-    ensures { Tells (RequestText request file.now.netlist file.now.sizing.items) result }
+    ensures { OnPrinted (RequestText request file.now.netlist file.now.sizing.items) result }
 {
     let Request {
         target,

@@ -9,7 +9,7 @@ use Rattle.trace_text.specs.declared.command.Command.TheVariants.{Prime}
 use Rattle.netlist.specs.declared.netlist.Module.{Module}
 use Rattle.netlist.specs.Holds.{entry_of}
 use Rattle.report.specs.Lines.{numbered}
-use Rattle.trace_text.specs.Lines.{Answer, answer_line, answer_lines, calls_in, channel_line, count_of, done, fired_line, outcome_from, refuses, trace_lines}
+use Rattle.trace_text.specs.Lines.{Answered, answer_line, answer_lines, calls_in, channel_line, count_of, done, fired_line, outcome_from, refuses, trace_lines}
 
 pub answers_more : (cs : List Command) (xs own others : List (Exchange ℕ)) (i : ℕ) (text line new whole : List ℕ) → i < length cs
     → own ≡ take (count_of (get_or cs i Prime)) xs → others ≡ drop (count_of (get_or cs i Prime)) xs → line ≡ answer_line (get_or cs i Prime) own → new ≡ text ++ line
@@ -36,26 +36,26 @@ trace_joined cs ms channels xs q f g s t u v hq hf hg long first second third =
     let e3 : length xs - g ≡ channels = omega (arith, hg, long) in
     rw (third, second, first, e0, e1, e2, e3, hq, hf, hg) (three s _ _ _)
 
-abbrev told : Option (Exchange ℕ) → Answer → Answer
+abbrev told : Option (Exchange ℕ) → Answered → Answered
 told o d = option_map_or (λ x. x.answer) o d
 
-one_or : (b : Bool) (x : Exchange ℕ) (rest d : Answer) (f l : Option (Exchange ℕ)) → rest ≡ told (option_or f l) d → cond b x.answer rest ≡ told (option_or (cond b (Some x) f) l) d
+one_or : (b : Bool) (x : Exchange ℕ) (rest d : Answered) (f l : Option (Exchange ℕ)) → rest ≡ told (option_or f l) d → cond b x.answer rest ≡ told (option_or (cond b (Some x) f) l) d
 one_or true x rest d f l e = refl
 one_or false x rest d f l e = e
 
-found_at : (d e : Answer) (x : Exchange ℕ) (xs : List (Exchange ℕ)) (k : ℕ) → k ≡ length xs → outcome_from e (x ∷ xs) ≡ told (option_or (find (λ y. refuses y.answer) (x ∷ xs)) (slice_get (x ∷ xs) k)) d
+found_at : (d e : Answered) (x : Exchange ℕ) (xs : List (Exchange ℕ)) (k : ℕ) → k ≡ length xs → outcome_from e (x ∷ xs) ≡ told (option_or (find (λ y. refuses y.answer) (x ∷ xs)) (slice_get (x ∷ xs) k)) d
 found_at d e x [] zero is = one_or (refuses x.answer) x x.answer d None (Some x) refl
 found_at d e x [] (suc k) is = absurd (omega (arith, is))
 found_at d e x (y ∷ ys) zero is = absurd (omega (arith, is))
 found_at d e x (y ∷ ys) (suc k) is = one_or (refuses x.answer) x (outcome_from x.answer (y ∷ ys)) d (find (λ y. refuses y.answer) (y ∷ ys)) (slice_get (y ∷ ys) k) (found_at d x.answer y ys k (omega (arith, is)))
 
-lent_told : (f l : Option (Bor (Exchange ℕ))) (r d : Answer) → MatchOption (option_or f l) (r ≡ d) (λ x. r ≡ x.now.answer) → r ≡ told (option_or (option_map (λ x. x.now) f) (option_map (λ x. x.now) l)) d
+lent_told : (f l : Option (Bor (Exchange ℕ))) (r d : Answered) → MatchOption (option_or f l) (r ≡ d) (λ x. r ≡ x.now.answer) → r ≡ told (option_or (option_map (λ x. x.now) f) (option_map (λ x. x.now) l)) d
 lent_told (Some x) l r d h = h
 lent_told None (Some x) r d h = h
 lent_told None None r d h = h
 
 -- the first refusal, or else the last answer
-pub outcome_found : (xs : List (Exchange ℕ)) (f l : Option (Bor (Exchange ℕ))) (r : Answer) → option_map (λ x. x.now) f ≡ find (λ x. refuses x.answer) xs → option_map (λ x. x.now) l ≡ slice_get xs (length xs - 1)
+pub outcome_found : (xs : List (Exchange ℕ)) (f l : Option (Bor (Exchange ℕ))) (r : Answered) → option_map (λ x. x.now) f ≡ find (λ x. refuses x.answer) xs → option_map (λ x. x.now) l ≡ slice_get xs (length xs - 1)
     → MatchOption (option_or f l) (r ≡ done) (λ x. r ≡ x.now.answer) → r ≡ outcome_from done xs
 outcome_found [] f l r first last h = rw (first, last) at (lent_told f l r done h)
 outcome_found (x ∷ xs) f l r first last h =

@@ -15,7 +15,7 @@ use Rattle.sizing.specs.Answers.{SizeAnswer}
 use Rattle.play.specs.declared.exchange.Exchange.{Exchange}
 use Rattle.play.specs.Trials.{Found, Refuses, Tried}
 use Rattle.report.specs.declared.request.Request.{Request}
-use Rattle.report.specs.Files.{Tells}
+use Rattle.report.specs.Files.{OnPrinted}
 use Rattle.report.specs.Lines.{numbered}
 use Rattle.report.specs.Sizes.{added_line, deepened_line}
 use Rattle.report.proofs.Asked.{asked}
@@ -80,5 +80,5 @@ module _ (m n : Netlist) (r : Request) (caps s before : List ℕ) (same : m ≡ 
       })
 
   pub trial_refused : (t : List ℕ) (x : Refusal) (told : Result (String Global) ReadError) → SizeAnswer m r.target.0 r.target.1 caps r.allowance s t (Err x)
-      → IsErrAnd told (λ y. y ≡ Refused x) → Tells (TraceText r cs n before) told
-  trial_refused t x told h e = handed_on (Tells (TraceText r cs n before)) told (Refused x) e (inr (inr (x, (refl, (asked m n r caps s before same all own t (Err x) h).1), refl)))
+      → IsErrAnd told (λ y. y ≡ Refused x) → OnPrinted (TraceText r cs n before) told
+  trial_refused t x told h e = handed_on (OnPrinted (TraceText r cs n before)) told (Refused x) e (inr (inr (x, (refl, (asked m n r caps s before same all own t (Err x) h).1), refl)))

@@ -25,14 +25,14 @@ command_words (Fill e) = codes "fill " ++ decimal e
 command_words (Front e) = codes "front " ++ decimal e
 
 -- what a call answered, if it was made
-abbrev pub Answer : Type 0
-Answer = Option (Result (Reply ℕ) Refusal)
+abbrev pub Answered : Type 0
+Answered = Option (Result (Reply ℕ) Refusal)
 
-abbrev pub done : Answer
+abbrev pub done : Answered
 done = Some (Ok Done)
 
 -- as `done`, `3`, `item 2`, `empty` or `refused 13 at 0`
-abbrev pub answer_words : Answer → List ℕ
+abbrev pub answer_words : Answered → List ℕ
 answer_words None = codes "open"
 answer_words (Some (Ok Done)) = codes "done"
 answer_words (Some (Ok (Number n))) = decimal n
@@ -40,13 +40,13 @@ answer_words (Some (Ok (Item (Some x)))) = codes "item " ++ decimal x
 answer_words (Some (Ok (Item None))) = codes "empty"
 answer_words (Some (Err why)) = refusal_line why
 
-abbrev pub refuses : Answer → Bool
+abbrev pub refuses : Answered → Bool
 refuses None = false
 refuses (Some (Ok _)) = false
 refuses (Some (Err _)) = true
 
 -- the answer of several calls as one: the first refusal, or else the last answer, and a given one where there is no call
-abbrev pub outcome_from : Answer → List (Exchange ℕ) → Answer
+abbrev pub outcome_from : Answered → List (Exchange ℕ) → Answered
 outcome_from last [] = last
 outcome_from last (x ∷ xs) = cond (refuses x.answer) x.answer (outcome_from x.answer xs)
 
@@ -112,7 +112,7 @@ abbrev pub fired_line : List (Exchange ℕ) → ℕ → Entry → List ℕ
 fired_line xs k m = fired_of k m (slice_index_or xs (k - 1) no_exchange)
 
 -- as `channel 1 fill 1 front 2`, or `front none`
-abbrev pub front_words : Answer → List ℕ
+abbrev pub front_words : Answered → List ℕ
 front_words None = codes "none"
 front_words (Some (Ok Done)) = codes "none"
 front_words (Some (Ok (Number n))) = codes "none"

@@ -1,6 +1,6 @@
 ghost use Rattle.std.specs.Prelude.{◌≡◌, ◌+◌, ◌++◌, length, IfOk, string_bytes, OnOk};
 ghost use Rattle.trace_text.specs.Lines.{calls_in, trace_lines};
-ghost use Rattle.report.specs.Files.{Tells};
+ghost use Rattle.report.specs.Files.{OnPrinted};
 ghost use Rattle.report.specs.Texts.{Prints};
 ghost use Rattle.trace_text.specs.Traces.{TraceText};
 
@@ -42,7 +42,7 @@ fn netlist_text(
     request: Request,
     commands: &[Command],
 ) -> Result<String, ReadError>
-    ensures { Tells (TraceText request commands.now file.now.netlist file.now.sizing.items) result }
+    ensures { OnPrinted (TraceText request commands.now file.now.netlist file.now.sizing.items) result }
 {
     let netlist = file.netlist();
     let before = file.sizing();
