@@ -3,7 +3,7 @@
 #![tactic(auto)]
 
 use anyhow::Context;
-use report::{forecast_text, read_file};
+use report::{LONGEST, forecast_text, read_file};
 use std::env;
 
 fn main(rt: HostRuntime) -> anyhow::Result<()> {
@@ -11,8 +11,9 @@ fn main(rt: HostRuntime) -> anyhow::Result<()> {
     let _program = words.next();
     let word = words.next().context("usage: forecast T")?;
     let steps = word.as_str().parse::<u32>()?;
-    let file = read_file(rt.alloc(), &mut rt.stdin())?;
-    let text = forecast_text(rt.alloc(), file.as_slice(), steps)?;
+    let mut buffer = [0; LONGEST];
+    let file = read_file(&mut rt.stdin(), &mut buffer)?;
+    let text = forecast_text(rt.alloc(), file, steps)?;
     print!(rt; "{text}")?;
     Ok(())
 }

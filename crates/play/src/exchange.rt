@@ -1,5 +1,6 @@
 ghost use Rattle.std.specs.Prelude.{◌≡◌, None};
 ghost use Rattle.play.specs.Words.{reply_words};
+ghost use Rattle.play.specs.declared.exchange.Reply.TheVariants.{Item};
 
 use netlist::Refusal;
 use std::fmt;
@@ -25,6 +26,15 @@ pub enum Reply<T> {
     Number(u32),
     /// The oldest item of a channel, if it has one.
     Item(Option<T>),
+}
+
+// What a call says that asks for the oldest item of a channel.
+impl<T> From<Option<T>> for Reply<T> {
+    ghost from_gives = { λ item reply. reply ≡ Item item };
+
+    fn from(item: Option<T>) -> Reply<T> {
+        Reply::Item(item)
+    }
 }
 
 impl<T: fmt::Display> fmt::Display for Reply<T> {

@@ -43,7 +43,7 @@ fn ask<C: CoreSet>(run: &mut Run<C>, table: &mut [C::Item], request: Request) ->
         Request::Fill(e) => Ok(Reply::Number(u32::from(run.fill(e)?))),
         Request::Front { channel, lent: n } => {
             let n = lent(n, table.len());
-            Ok(Reply::Item(run.front(channel, &table[..n])?))
+            Ok(run.front(channel, &table[..n])?.into())
         }
     }
 }
@@ -52,7 +52,9 @@ fn ask<C: CoreSet>(run: &mut Run<C>, table: &mut [C::Item], request: Request) ->
 fn ask_all<C: CoreSet>(run: &mut Run<C>, exchanges: &mut [Exchange<C::Item>], table: &mut [C::Item])
     ensures { (chip : Chip C.Item C.State) (c : Count) (before : List C.Item) → Tells true C.CoreSet.rules C.CoreSet.held chip c before run.old table.old → (exchanges.new ≡ answered_from chip (length table.old) c exchanges.old) × Tells true C.CoreSet.rules C.CoreSet.held chip (counted_from chip.net c (calls_of (length table.old) exchanges.old)) before run.new table.new }
 {
-    for exchange in exchanges.iter_mut() {
+    // By the place in the list, and not by `iter_mut`: an edit of where the loop begins is then refused for what it does.
+    for i in 0..exchanges.len() {
+        let exchange = &mut exchanges[i];
         exchange.answer = Some(ask(run, table, exchange.request));
     }
 }

@@ -8,12 +8,21 @@ use crate::extend::extend;
 use crate::sized::SizedNetlist;
 use marked::{Graph, PLACES, Place};
 
-// A place of none, for the entries of a list before it is filled.
-const NOWHERE: Place = Place {
+// Room for the places of any netlist, before they are put there.
+pub(crate) const NO_PLACES: [Place; PLACES] = [Place {
     from: 0,
     to: 0,
     tokens: 0,
-};
+}; PLACES];
+
+// The extended graph, its places in a list of the caller's: to hand out an `ExtendedGraph` takes a third of what it takes to rate a small one.
+pub(crate) fn extended_in<'p>(chip: SizedNetlist, places: &'p mut [Place; PLACES]) -> Graph<'p>
+    ensures modules { result.modules ≡ modules chip.entry.netlist.now }
+    ensures places { result.places.now ≡ graph_of chip.entry.netlist.now chip.entry.sizing.now }
+{
+    let count = extend(chip.netlist(), chip.sizing(), places);
+    Graph::new(chip.netlist().modules().len(), &places[..count])
+}
 
 /// The extended graph of a netlist under a sizing. Its places are the first `count` of the list, which is an array, since a rating may not
 /// fail for memory.
@@ -31,7 +40,7 @@ impl ExtendedGraph {
         ensures modules { result.modules ≡ modules chip.entry.netlist.now }
         ensures places { take result.count result.places ≡ graph_of chip.entry.netlist.now chip.entry.sizing.now }
     {
-        let mut places = [NOWHERE; PLACES];
+        let mut places = NO_PLACES;
         let count = extend(chip.netlist(), chip.sizing(), &mut places);
         ExtendedGraph {
             modules: chip.netlist().modules().len(),

@@ -4,7 +4,7 @@ ghost use Rattle.rating.specs.Extended.{graph_of};
 ghost use Rattle.marked.specs.Answers.{Measured};
 ghost use Rattle.rating.specs.Ratings.{RateAnswer, RatedCycle, Rates};
 
-use crate::graph::ExtendedGraph;
+use crate::graph::{NO_PLACES, extended_in};
 use crate::numbers::put_numbers;
 use crate::rating::Rating;
 use crate::sized::SizedNetlist;
@@ -48,7 +48,8 @@ fn rate_graph(chip: SizedNetlist, walk: &mut [u16], potentials: &mut [i32]) -> R
     requires room { modules chip.netlist.now ≤ length potentials.old }
     ensures { Measured (modules chip.entry.netlist.now) (graph_of chip.entry.netlist.now chip.entry.sizing.now) result.rate.0 result.rate.1 result.length potentials.old potentials.new walk.old walk.new }
 {
-    marked::rate(ExtendedGraph::of(chip).graph(), potentials, walk)
+    let mut places = NO_PLACES;
+    marked::rate(extended_in(chip, &mut places), potentials, walk)
 }
 
 /// The rate of a netlist under a sizing, and a cycle that shows it, by the indices from 0 of its places in the extended graph: what

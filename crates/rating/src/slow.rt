@@ -4,7 +4,7 @@ ghost use Rattle.marked.specs.Graphs.{Reaches, tokens_on};
 ghost use Rattle.netlist.specs.Holds.{modules};
 ghost use Rattle.rating.specs.Extended.{graph_of};
 
-use crate::graph::ExtendedGraph;
+use crate::graph::{NO_PLACES, extended_in};
 use crate::sized::SizedNetlist;
 use marked::{MODULES, Target, tokens_on};
 
@@ -38,9 +38,9 @@ pub fn slow_cycle_with_tokens(
         let graph = graph_of chip.entry.netlist.now chip.entry.sizing.now in
         MatchOption result (Reaches target.a target.b graph × (cycle.new ≡ cycle.old)) (λ s. Found n target.a target.b graph cycle.old cycle.new s.length × (s.tokens ≡ tokens_on graph (take s.length cycle.new))) }
 {
-    let extended = ExtendedGraph::of(chip);
-    let graph = extended.graph();
-    // Scratch is a fixed array, so that a rating cannot fail for memory.
+    // Scratch is fixed arrays, so that a rating cannot fail for memory.
+    let mut places = NO_PLACES;
+    let graph = extended_in(chip, &mut places);
     let mut potentials = [0; MODULES];
     let length = marked::slow_cycle(graph, target, &mut potentials, cycle)?;
     let tokens = tokens_on(graph, &cycle[0..length]);

@@ -1,5 +1,6 @@
 -- What a request for a sizing answered, as it is printed.
-use Rattle.std.proofs.Common.{◌≡◌, ℕ, List, ◌++◌, replicate, None, Ok, Err, Result, String, Global, IsErrAnd, refl, subst, subst₂, inl, inr, append_assoc}
+use Rattle.std.proofs.Common.{◌≡◌, ℕ, ◌≤◌, List, ◌++◌, take, replicate, None, Ok, Err, Result, String, Global, IsErrAnd, refl, ◌∙◌, ap, subst, subst₂, inl, inr, append_assoc}
+use Rattle.std.proofs.lemmas.List.{take-replicate}
 use Rattle.netlist.specs.declared.netlist.Netlist.{Netlist}
 use Rattle.netlist.specs.declared.reading.ReadError.{ReadError}
 use Rattle.netlist.specs.declared.reading.ReadError.TheVariants.{Refused}
@@ -20,6 +21,10 @@ use Rattle.report.proofs.Printed.{handed_on}
 pub found_sized : (n : Netlist) (a b : ℕ) (caps : List ℕ) (m : ℕ) (s t : List ℕ) (k : ℕ) → SizeAnswer n a b caps m s t (Ok k) → sizing_fault (channels n) t ≡ None
 found_sized n a b caps m s t k h =
     (ready_between n caps s t (request_low (channels n) a b caps m s h.0) (request_ready (channels n) a b caps m s h.0 n refl) h.1.candidate.above h.1.candidate.under).sized
+
+-- the caps that the code lends are one cap for each channel
+pub caps_are : (e k cap : ℕ) → e ≡ k → e ≤ 192 → take e (replicate 192 cap) ≡ replicate k cap
+caps_are e k cap count few = take-replicate e 192 cap few ∙ ap (λ (i : ℕ). replicate i cap) count
 
 module _ (m n : Netlist) (r : Request) (caps s before : List ℕ) (same : m ≡ n) (all : caps ≡ replicate (channels n) r.cap) (own : s ≡ before) where
   pub asked : (t : List ℕ) (x : Result ℕ Refusal)

@@ -20,7 +20,7 @@ use Rattle.rating.specs.Ratings.{Accepted}
 use Rattle.rating.specs.Sizings.{sizing_fault}
 use Rattle.rating.proofs.Sizes.{sizing_good}
 use Rattle.report.specs.declared.file.NetlistFile.{NetlistFile}
-use Rattle.report.specs.Files.{PrintedOf, ReadAs, OnPrinted}
+use Rattle.report.specs.Files.{PrintedOf, ReadAs, OnPrinted, sizes_of}
 use Rattle.report.specs.Lines.{rating_lines, refused}
 use Rattle.report.specs.Texts.{CheckText, FileText, Prints, RatedText}
 
@@ -53,43 +53,38 @@ size_in c v k l =
     ⊎_elim (λ none. rw (get_or_past c.sizes k 1 (omega arith)) (omega arith, omega arith))
     (λ each. All-get_or (IsInRange 1 16) c.sizes k 1 (omega arith) v.sizes) v.sized
 
-module _ (file : List ℕ) (n m : Netlist) (was is : List ℕ) (room : 192 ≤ length was) (same : length is ≡ length was) (f : Filled file (Ok tt) n m was is) (e : ℕ) (count : e ≡ length (vec_items m.channels)) where
+module _ (file : List ℕ) (n m : Netlist) (was is : List ℕ) (room : 192 ≤ length was) (same : length is ≡ length was) (f : Filled file (Ok tt) n m was is) where
   contents : Contents
   contents = f.0
 
   -- the channels that were read are those of the file
-  counted : e ≡ length contents.channels
+  counted : channels m ≡ length contents.channels
   unfolding contents
-  counted = count ∙ ap length f.3.channels
+  counted = m.channels.ok.0 ∙ ap length f.3.channels
 
-  fits : e ≤ length is
+  fits : channels m ≤ length is
   unfolding contents
   fits = omega (arith, counted, f.2.valid.few)
 
   -- the front of the table is a sizing of the netlist
-  pub sized : sizing_fault (channels m) (take (e - 0) is) ≡ None
+  pub sized : sizing_fault (channels m) (take (channels m) is) ≡ None
   unfolding contents
   sized =
-      rw (sub-zero e)
-      (sizing_good (channels m) (take e is) (omega (arith, length-take-le e is fits, count, m.channels.ok.0))
-      (λ i l. let here : i < e = omega (arith, length-take-le e is fits) in
-      rw (get_or-take e is i 0 here, f.3.sizes i (omega (arith, counted))) (size_in contents f.2.valid i (omega (arith, counted)))))
-
-  held : Holds contents m [] (take e is)
-  unfolding contents
-  held = record {
-    modules = f.3.modules;
-    channels = f.3.channels;
-    sizes = λ k l. let here : k < e = omega (arith, counted) in get_or-take e is k 0 here ∙ f.3.sizes k l;
-    behind = λ k l. get_or_past (take e is) k 0 (omega (arith, counted, length-take-le e is fits));
-  }
+      sizing_good (channels m) (take (channels m) is) (length-take-le (channels m) is fits)
+      (λ i l. let here : i < channels m = omega (arith, length-take-le (channels m) is fits) in
+      rw (get_or-take (channels m) is i 0 here, f.3.sizes i (omega (arith, counted))) (size_in contents f.2.valid i (omega (arith, counted))))
 
   -- and with the netlist it is what the file says
-  pub read_as : (s : List ℕ) → s ≡ take (e - 0) is → (c : Contents) × (verdict file ≡ Ok c) × Holds c m [] s × (length s ≡ channels m)
+  pub read_as : (c : Contents) × (verdict file ≡ Ok c) × Holds c m [] (take (channels m) is) × (length (take (channels m) is) ≡ channels m)
   unfolding contents
-  read_as s front =
-      let same_front : s ≡ take e is = front ∙ ap (λ (k : ℕ). take k is) (sub-zero e) in
-      (contents, sym (same_verdict file (length was) room) ∙ f.1, rw same_front held, rw same_front (omega (arith, length-take-le e is fits, count, m.channels.ok.0)))
+  read_as =
+      let held : Holds contents m [] (take (channels m) is) = record {
+        modules = f.3.modules;
+        channels = f.3.channels;
+        sizes = λ k l. let here : k < channels m = omega (arith, counted) in get_or-take (channels m) is k 0 here ∙ f.3.sizes k l;
+        behind = λ k l. get_or_past (take (channels m) is) k 0 (omega (arith, counted, length-take-le (channels m) is fits));
+      } in
+      (contents, sym (same_verdict file (length was) room) ∙ f.1, held, length-take-le (channels m) is fits)
 
 -- a refusal of the check is told
 pub check_told : (P : List ℕ → Type 0) (n m : Netlist) (r : Result (String Global) ReadError) (x : Refusal) → ((text : List ℕ) → CheckText n text → P text) → m ≡ n → verdicts.Refused m x
@@ -98,17 +93,17 @@ check_told P n m r x says same h e = handed_on (OnPrinted P) r (Refused x) e (sa
 
 -- what is printed of a file is what is told of its netlist and its sizing
 printed : (Text : Netlist → List ℕ → List ℕ → Type 0) (file : List ℕ) (read : Result NetlistFile ReadError) (told : Result (String Global) ReadError) (text : List ℕ) (Post : NetlistFile → Type 0)
-    → ReadAs (verdict file) read → MatchResult read Post (λ e. told ≡ Err e) → ((f : NetlistFile) → Post f → OnPrinted (Text f.netlist (vec_items f.sizing)) told)
+    → ReadAs (verdict file) read → MatchResult read Post (λ e. told ≡ Err e) → ((f : NetlistFile) → Post f → OnPrinted (Text f.netlist (sizes_of f)) told)
     → PrintedOf told text → Prints Text file text
-printed Text file (Ok f) (Ok s) text Post r p says t = subst (λ (v : Result Contents Refusal). FileText Text v text) (sym r.1) (f.netlist, vec_items f.sizing, r.2, r.3, rw t (says f p))
-printed Text file (Ok f) (Err (Refused x)) text Post r p says t = subst (λ (v : Result Contents Refusal). FileText Text v text) (sym r.1) (f.netlist, vec_items f.sizing, r.2, r.3, rw t (says f p))
+printed Text file (Ok f) (Ok s) text Post r p says t = subst (λ (v : Result Contents Refusal). FileText Text v text) (sym r.1) (f.netlist, sizes_of f, r.2, r.3, rw t (says f p))
+printed Text file (Ok f) (Err (Refused x)) text Post r p says t = subst (λ (v : Result Contents Refusal). FileText Text v text) (sym r.1) (f.netlist, sizes_of f, r.2, r.3, rw t (says f p))
 printed Text file (Ok f) (Err NoMemory) text Post r p says t = absurd t
 printed Text file (Err (Refused x)) told text Post r p says t = subst (λ (v : Result Contents Refusal). FileText Text v text) (sym r) (rw p at t)
 printed Text file (Err NoMemory) told text Post r p says t = absurd (rw p at t)
 
 -- and so is the text that was made, if there was memory for it
 pub printed_if : (Text : Netlist → List ℕ → List ℕ → Type 0) (file : List ℕ) (read : Result NetlistFile ReadError) (told : Result (String Global) ReadError) (made : Result (String Global) AllocError) (Post : NetlistFile → Type 0)
-    → ReadAs (verdict file) read → MatchResult read Post (λ e. told ≡ Err e) → ((f : NetlistFile) → Post f → OnPrinted (Text f.netlist (vec_items f.sizing)) told)
+    → ReadAs (verdict file) read → MatchResult read Post (λ e. told ≡ Err e) → ((f : NetlistFile) → Post f → OnPrinted (Text f.netlist (sizes_of f)) told)
     → IfOk made (λ s. PrintedOf told (string_bytes s)) → IfOk made (λ s. Prints Text file (string_bytes s))
 printed_if Text file read told made Post r p says h = made_of made _ _ h (λ s t. printed Text file read told (string_bytes s) Post r p says t)
 

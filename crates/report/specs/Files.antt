@@ -1,5 +1,5 @@
 -- What is read of a file, and what is printed where that or a later call refuses. Assumes nothing.
-use Rattle.std.specs.Prelude.{◌≡◌, ℕ, ⊤, List, [], length, Ok, Err, vec_items, string_bytes, Result, String}
+use Rattle.std.specs.Prelude.{◌≡◌, ℕ, ⊤, List, [], length, take, Ok, Err, string_bytes, Result, String}
 use Rattle.std.specs.Global.{Global}
 use Rattle.netlist.specs.declared.reading.ReadError.{ReadError}
 use Rattle.netlist.specs.declared.reading.ReadError.TheVariants.{NoMemory, Refused}
@@ -9,9 +9,13 @@ use Rattle.netlist.specs.Layout.{Contents}
 use Rattle.report.specs.declared.file.NetlistFile.{NetlistFile}
 use Rattle.report.specs.Lines.{refused}
 
+-- the sizing of a file that was read: the front of its table
+abbrev pub sizes_of : NetlistFile → List ℕ
+sizes_of f = take (channels f.netlist) f.table
+
 -- the verdict on a file and the answer to reading it: what the file says, or its fault
 abbrev pub ReadAs : Result Contents Refusal → Result NetlistFile ReadError → Type 0
-ReadAs v (Ok f) = (c : Contents) × (v ≡ Ok c) × Holds c f.netlist [] (vec_items f.sizing) × (length (vec_items f.sizing) ≡ channels f.netlist)
+ReadAs v (Ok f) = (c : Contents) × (v ≡ Ok c) × Holds c f.netlist [] (sizes_of f) × (length (sizes_of f) ≡ channels f.netlist)
 ReadAs v (Err (Refused x)) = v ≡ Err x
 ReadAs v (Err NoMemory) = ⊤
 

@@ -1,15 +1,16 @@
-ghost use Rattle.std.specs.Prelude.{◌≡◌, None};
+ghost use Rattle.std.specs.Prelude.{◌≡◌, take, None};
 ghost use Rattle.netlist.specs.Holds.{channels};
 ghost use Rattle.rating.specs.Sizings.{sizing_fault};
 
-use netlist::Netlist;
+use netlist::{CHANNELS, Netlist};
 
 /// What a netlist file says: a netlist, and a queue size for each channel.
 #[derive(Drop)]
 pub struct NetlistFile {
     pub(crate) netlist: Netlist,
-    pub(crate) sizing: Vec<u8>,
-    ghost sized: { sizing_fault (channels netlist) sizing.items ≡ None },
+    // The sizes at its front. An array, so that no memory is asked for.
+    pub(crate) table: [u8; CHANNELS],
+    ghost sized: { sizing_fault (channels netlist) (take (channels netlist) table) ≡ None },
 }
 
 impl NetlistFile {
@@ -17,11 +18,5 @@ impl NetlistFile {
         ensures { result.now ≡ self.now.netlist }
     {
         &self.netlist
-    }
-
-    pub fn sizing(&self) -> &[u8]
-        ensures { result.now ≡ self.now.sizing.items }
-    {
-        self.sizing.as_slice()
     }
 }

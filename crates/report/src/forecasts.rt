@@ -1,6 +1,6 @@
 ghost use Rattle.std.specs.Prelude.{◌≡◌, ◌≤◌, length, IfOk, string_bytes};
 ghost use Rattle.netlist.specs.Holds.{entry_of};
-ghost use Rattle.report.specs.Files.{OnPrinted};
+ghost use Rattle.report.specs.Files.{OnPrinted, sizes_of};
 ghost use Rattle.report.specs.Forecasts.{StepsText, count_line};
 ghost use Rattle.report.specs.Lines.{numbered};
 ghost use Rattle.report.specs.Texts.{Prints};
@@ -26,7 +26,7 @@ pub fn forecast_text(heap: Global, file: &[u8], steps: u32) -> Result<String, Al
 
 // The same of a file that was read.
 fn steps_text(heap: Global, file: &NetlistFile, steps: u32) -> Result<String, ReadError>
-    ensures { OnPrinted (StepsText steps file.now.netlist file.now.sizing.items) result }
+    ensures { OnPrinted (StepsText steps file.now.netlist (sizes_of file.now)) result }
 {
     let netlist = file.netlist();
     let checked = check(netlist)?;

@@ -13,7 +13,7 @@ mod texts;
 
 pub use file::NetlistFile;
 pub use forecasts::forecast_text;
-pub use input::{fill, read_file};
+pub use input::{LONGEST, fill, read_file};
 pub use listing::add_lines;
 pub use request::{DEEPEST, Request};
 pub use sizes::{add_deepened, size_text};

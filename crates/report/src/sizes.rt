@@ -1,5 +1,5 @@
 ghost use Rattle.std.specs.Prelude.{◌≡◌, ◌≤◌, ◌++◌, length, IfOk, string_bytes, OnOk};
-ghost use Rattle.report.specs.Files.{OnPrinted};
+ghost use Rattle.report.specs.Files.{OnPrinted, sizes_of};
 ghost use Rattle.report.specs.Lines.{numbered};
 ghost use Rattle.report.specs.Sizes.{RequestText, deepened, deepened_line};
 ghost use Rattle.report.specs.Texts.{Prints};
@@ -10,7 +10,7 @@ use crate::request::Request;
 use crate::telling::or_refusal;
 use crate::texts::checked_text;
 use checking::check;
-use netlist::ReadError;
+use netlist::{CHANNELS, ReadError};
 use sizing::size;
 use std::alloc::{AllocError, Global};
 
@@ -25,7 +25,7 @@ pub fn size_text(heap: Global, file: &[u8], request: Request) -> Result<String, 
 
 // The same of a file that was read.
 fn request_text(heap: Global, file: &NetlistFile, request: Request) -> Result<String, ReadError>
-    ensures { OnPrinted (RequestText request file.now.netlist file.now.sizing.items) result }
+    ensures { OnPrinted (RequestText request file.now.netlist (sizes_of file.now)) result }
 {
     let Request {
         target,
@@ -34,10 +34,12 @@ fn request_text(heap: Global, file: &NetlistFile, request: Request) -> Result<St
     } = request;
     let checked = check(file.netlist())?;
     let before = file.sizing();
-    let caps = vec![in heap; cap; before.len()]?;
-    let mut table = before.to_vec(heap)?;
-    let sizing = table.as_mut_slice();
-    let added = size(checked, target, caps.as_slice(), allowance, sizing)?;
+    let channels = before.len();
+    let caps = [cap; CHANNELS];
+    let mut table = [0; CHANNELS];
+    let sizing = &mut table[..channels];
+    sizing.copy_from_slice(before);
+    let added = size(checked, target, &caps[..channels], allowance, sizing)?;
     let rating = checked_text(heap, checked, sizing)?;
     let mut text = format!(in heap; "added {added}\n")?;
     add_deepened(heap, &mut text, before, sizing)?;

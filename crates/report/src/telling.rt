@@ -1,6 +1,6 @@
-ghost use Rattle.std.specs.Prelude.{IfOk, string_bytes};
+ghost use Rattle.std.specs.Prelude.{◌≡◌, IfOk, string_bytes};
 ghost use Rattle.netlist.specs.Faults.{verdict};
-ghost use Rattle.report.specs.Files.{PrintedOf, ReadAs};
+ghost use Rattle.report.specs.Files.{PrintedOf, ReadAs, sizes_of};
 
 use crate::file::NetlistFile;
 use netlist::{CHANNELS, Netlist, ReadError, read};
@@ -13,12 +13,16 @@ impl NetlistFile {
         ensures { ReadAs (verdict file.now) result }
     {
         let mut netlist = Netlist::new(heap)?;
-        // An array, since how many sizes a file has is known only when it is read.
         let mut table = [1; CHANNELS];
         read(heap, file, &mut netlist, &mut table)?;
-        let channels = netlist.channels().len();
-        let sizing = table[0..channels].to_vec(heap)?;
-        Ok(NetlistFile { netlist, sizing })
+        Ok(NetlistFile { netlist, table })
+    }
+
+    pub fn sizing(&self) -> &[u8]
+        ensures { result.now ≡ sizes_of self.now }
+    {
+        let channels = self.netlist.channels().len();
+        &self.table[..channels]
     }
 }
 

@@ -1,7 +1,7 @@
 ghost use Rattle.std.specs.Prelude.{◌≡◌, IfOk, None, string_bytes};
 ghost use Rattle.netlist.specs.Holds.{channels};
 ghost use Rattle.rating.specs.Sizings.{sizing_fault};
-ghost use Rattle.report.specs.Files.{OnPrinted};
+ghost use Rattle.report.specs.Files.{OnPrinted, sizes_of};
 ghost use Rattle.report.specs.Texts.{NetlistText, Prints, RatedText};
 
 use crate::file::NetlistFile;
@@ -23,7 +23,7 @@ pub fn rate_text(heap: Global, file: &[u8]) -> Result<String, AllocError>
 
 // The same of a file that was read.
 fn netlist_text(heap: Global, file: &NetlistFile) -> Result<String, ReadError>
-    ensures { OnPrinted (NetlistText file.now.netlist file.now.sizing.items) result }
+    ensures { OnPrinted (NetlistText file.now.netlist (sizes_of file.now)) result }
 {
     let checked = check(file.netlist())?;
     let text = checked_text(heap, checked, file.sizing())?;

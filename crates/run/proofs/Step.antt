@@ -108,7 +108,7 @@ module _ {Item State : Type 0} (ok : Bool) (before : List Item) (chip : Chip Ite
       → Stands ok before chip (more c.firings (fires chip.net c.marks c.firings)) (puts chip.net (more c.firings (fires chip.net c.marks c.firings))) i₁.channels r₁ h₁ t₁
       × Counts i₁.modules i₁ (more c.firings (fires chip.net c.marks c.firings))
       → i₂.modules ≡ i₁.modules → i₂.blocks ≡ i₁.blocks → i₂.channels ≡ i₁.channels → ((k : ℕ) → (state_at i₂ k).firings ≡ (state_at i₁ k).firings) → i₂.primed ≡ i₁.primed
-      → i₂.steps ≡ i₁.steps + 1 → ((k : ℕ) → (state_at i₂ k).marked ≡ false)
+      → i₂.steps ≡ i₁.steps + 1 → ((k : ℕ) → k < i₂.modules → (state_at i₂ k).marked ≡ false)
       → Told ok before chip (done chip.net c (step len)) i₂ r₁ h₁ t₁
   told_step len i₁ i₂ r₁ h₁ t₁ fr out em eb ew ef ep es clear =
       let f' = more c.firings (fires chip.net c.marks c.firings) in
@@ -119,7 +119,7 @@ module _ {Item State : Type 0} (ok : Bool) (before : List Item) (chip : Chip Ite
         entries = ap (λ (w : Channels). w.entries) ew ∙ fr.entries ∙ td.entries;
         blocks = λ k lt. ap (λ xs. get_or xs k false) (eb ∙ fr.blocks) ∙ td.blocks k (omega (arith, em, fr.modules));
         firings = λ k lt. ef k ∙ out.1 k (omega (arith, em));
-        marks = λ k lt. clear k;
+        marks = clear;
         primed = ep ∙ fr.primed ∙ td.primed;
         steps = es ∙ ap (λ n. n + 1) (fr.steps ∙ td.steps);
         few = λ v. at_most (c.firings v) c.steps (fires chip.net c.marks c.firings v) (td.few v);

@@ -113,7 +113,7 @@ impl<C: CoreSet> Run<C> {
         }
         let firing = self.inner.judge();
         self.fire_all(&firing, table);
-        unmark(&mut self.inner.states);
+        unmark(&mut self.inner.states, self.inner.modules as usize);
         self.inner.steps += 1;
         Ok(())
     }

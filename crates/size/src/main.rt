@@ -3,7 +3,7 @@
 #![tactic(auto)]
 
 use anyhow::Context;
-use report::{DEEPEST, Request, read_file, size_text};
+use report::{DEEPEST, LONGEST, Request, read_file, size_text};
 use std::env;
 
 // A word of the arguments as a number. The tracing program has the same two lines, with its own message; a library for them would be longer.
@@ -32,8 +32,9 @@ fn request(rt: &HostRuntime) -> anyhow::Result<Request> {
 
 fn main(rt: HostRuntime) -> anyhow::Result<()> {
     let request = request(&rt)?;
-    let file = read_file(rt.alloc(), &mut rt.stdin())?;
-    let text = size_text(rt.alloc(), file.as_slice(), request)?;
+    let mut buffer = [0; LONGEST];
+    let file = read_file(&mut rt.stdin(), &mut buffer)?;
+    let text = size_text(rt.alloc(), file, request)?;
     print!(rt; "{text}")?;
     Ok(())
 }

@@ -3,7 +3,7 @@
 #![tactic(auto)]
 
 use anyhow::Context;
-use report::{DEEPEST, Request, read_file};
+use report::{DEEPEST, LONGEST, Request, read_file};
 use std::env;
 use trace_text::{Command, parse, trace_text};
 
@@ -35,8 +35,9 @@ fn arguments(rt: &HostRuntime) -> anyhow::Result<(Request, Vec<Command>)> {
 
 fn main(rt: HostRuntime) -> anyhow::Result<()> {
     let (request, commands) = arguments(&rt)?;
-    let file = read_file(rt.alloc(), &mut rt.stdin())?;
-    let text = trace_text(rt.alloc(), file.as_slice(), request, commands.as_slice())?;
+    let mut buffer = [0; LONGEST];
+    let file = read_file(&mut rt.stdin(), &mut buffer)?;
+    let text = trace_text(rt.alloc(), file, request, commands.as_slice())?;
     print!(rt; "{text}")?;
     Ok(())
 }

@@ -75,7 +75,13 @@ pub(crate) fn requests_of(
 ) -> Result<Vec<Exchange<u32>>, AllocError>
     ensures { IfOk result (λ v. v.items ≡ asked_for commands.now modules channels) }
 {
-    let mut list = Vec::new(heap);
+    // Room for all of them at once: a list that grows as they come may ask for twice as much.
+    let questions = modules as usize + channels as usize + channels as usize;
+    let calls = commands.iter().fold(
+        questions,
+        |calls, command| calls.saturating_add(command.count()),
+    );
+    let mut list = Vec::with_capacity(heap, calls)?;
     add_all(&mut list, commands)?;
     add_each(&mut list, modules, Command::Firings)?;
     add_each(&mut list, channels, Command::Fill)?;

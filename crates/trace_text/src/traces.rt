@@ -1,6 +1,6 @@
 ghost use Rattle.std.specs.Prelude.{◌≡◌, ◌+◌, ◌++◌, length, IfOk, string_bytes, OnOk};
 ghost use Rattle.trace_text.specs.Lines.{calls_in, trace_lines};
-ghost use Rattle.report.specs.Files.{OnPrinted};
+ghost use Rattle.report.specs.Files.{OnPrinted, sizes_of};
 ghost use Rattle.report.specs.Texts.{Prints};
 ghost use Rattle.trace_text.specs.Traces.{TraceText};
 
@@ -10,7 +10,7 @@ use crate::requests::requests_of;
 use crate::table::{add_fills, add_firings};
 use checking::check;
 use cores::SumSet;
-use netlist::{Module, ReadError};
+use netlist::{CHANNELS, Module, ReadError};
 use play::{Exchange, trial};
 use report::{NetlistFile, Request, add_deepened, or_refusal};
 use std::alloc::{AllocError, Global};
@@ -42,7 +42,7 @@ fn netlist_text(
     request: Request,
     commands: &[Command],
 ) -> Result<String, ReadError>
-    ensures { OnPrinted (TraceText request commands.now file.now.netlist file.now.sizing.items) result }
+    ensures { OnPrinted (TraceText request commands.now file.now.netlist (sizes_of file.now)) result }
 {
     let netlist = file.netlist();
     let before = file.sizing();
@@ -50,14 +50,15 @@ fn netlist_text(
     let modules = netlist.modules();
     let channels = netlist.channels().len();
     let mut exchanges = requests_of(heap, commands, modules.len() as u8, channels as u8)?;
-    let caps = vec![in heap; request.cap; channels]?;
-    let mut table = before.to_vec(heap)?;
-    let sizing = table.as_mut_slice();
+    let caps = [request.cap; CHANNELS];
+    let mut table = [0; CHANNELS];
+    let sizing = &mut table[..channels];
+    sizing.copy_from_slice(before);
     let mut items = [0; ITEMS];
     let (added, _) = trial(
         checked,
         request.target,
-        caps.as_slice(),
+        &caps[..channels],
         request.allowance,
         sizing,
         SumSet::new(),

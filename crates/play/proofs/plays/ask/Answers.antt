@@ -62,4 +62,4 @@ returns-in_ok-front-in-Front g c = λ chip k before td.
     let e = c.in-Front.channel in
     let told = front_lent m.rules m.held chip k before c.args.run.now t td e c.in-Front.n c.lent-n-in-Front.result c.front.result c.lent-n-in-Front.ensures.is c.lent-n-in-Front.ensures.within
     (c.front.ensures.told chip k _) (c.front.ensures.short true chip k before t td) in
-    rw (c.in-Front.is, unless_same) (accepted_too _ c.front.result _ _ (λ x. Item x) c.in_ok-front-in-Front.was told, td)
+    rw (c.in-Front.is, c.into.ensures, unless_same) (accepted_too _ c.front.result _ _ (λ x. Item x) c.in_ok-front-in-Front.was told, td)

@@ -2,6 +2,7 @@ use Rattle.std.proofs.Common.{◌≡◌, List, ℕ, None, ap, ◌∙◌, subst, 
 use Rattle.checking.specs.Verdicts.{Passed}
 use Rattle.forecasting.specs.Forecasts.{forecast_fault}
 use Rattle.netlist.specs.declared.netlist.Netlist.{Netlist}
+use Rattle.report.specs.Files.{sizes_of}
 use Rattle.report.specs.Forecasts.{StepsText}
 use Rattle.report.proofs.Foretold.{counted_text}
 use Rattle.report.proofs.Printed.{check_told}
@@ -10,7 +11,7 @@ use Rattle.report.proofs.forecasts.steps_text.Goals as goal
 pub returns-in_err-checked : goal.returns-in_err-checked
 returns-in_err-checked c =
     let file = c.args.file.now in
-    check_told (StepsText c.args.steps file.netlist file.sizing.items) file.netlist _ _ c.in_err-checked.field-0.0 (λ text h. inr (inl h)) c.netlist-netlist.ensures c.in_err-checked.ensures
+    check_told (StepsText c.args.steps file.netlist (sizes_of file)) file.netlist _ _ c.in_err-checked.field-0.0 (λ text h. inr (inl h)) c.netlist-netlist.ensures c.in_err-checked.ensures
     c.from_residual.ensures.1
 
 pub returns : goal.returns

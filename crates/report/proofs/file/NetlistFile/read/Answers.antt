@@ -1,4 +1,4 @@
-use Rattle.std.proofs.Common.{length, ap, rules}
+use Rattle.std.proofs.Common.{rules}
 use Rattle.netlist.specs.Faults.{verdict}
 use Rattle.report.specs.Files.{ReadAs}
 use Rattle.report.proofs.Printed.{handed_on, read_as, sized, unread}
@@ -12,11 +12,8 @@ returns-in_err-read c =
 pub invariant_of-result : goal.invariant_of-result
 invariant_of-result c =
     record {
-      sized = rw (c.in_ok-sizing.ensures.items_if_clones_equal (λ x y h. h))
-          (sized c.args.file.now c.in_ok-netlist.netlist c.read.new.netlist _ c.read.new.sizing (search rules) (search rules) c.in_ok-read.ensures _ (ap length c.channels-channels.ensures));
+      sized = sized c.args.file.now c.in_ok-netlist.netlist c.read.new.netlist _ c.read.new.sizing (search rules) (search rules) c.in_ok-read.ensures;
     }
 
 pub returns : goal.returns
-returns c =
-    read_as c.args.file.now c.in_ok-netlist.netlist c.read.new.netlist _ c.read.new.sizing (search rules) (search rules) c.in_ok-read.ensures _ (ap length c.channels-channels.ensures)
-    _ (c.in_ok-sizing.ensures.items_if_clones_equal (λ x y h. h))
+returns c = read_as c.args.file.now c.in_ok-netlist.netlist c.read.new.netlist _ c.read.new.sizing (search rules) (search rules) c.in_ok-read.ensures

@@ -1,6 +1,5 @@
-use Rattle.std.proofs.Common.{◌^◌, ◌<◌, length, refl, ap, arith, rules}
+use Rattle.std.proofs.Common.{◌^◌, ◌<◌, length, refl, arith, rules}
 use Rattle.counts.specs.Steps.{fires}
-use Rattle.run.specs.declared.inner.ModuleState.{ModuleState}
 use Rattle.run.proofs.Replying.{step_ok}
 use Rattle.run.proofs.Step.{planned, told_step}
 use Rattle.run.proofs.run.Run.step.Goals as goal
@@ -17,5 +16,5 @@ returns-clause-told g c =
       step_ok ok before chip k s₀.inner (m.rules s₀.cores) (m.held s₀.cores) t₀ td (length t₀) c.in_ok-after_prime.ensures c.in_ok-room.ensures c.if-self-ge-STEPS.false,
       told_step ok before chip k s₀.inner (m.rules s₀.cores) (m.held s₀.cores) t₀ td c.in_ok-after_prime.ensures (length t₀) s₁.inner _ (m.rules s₁.cores) (m.held s₁.cores) c.fire_all.new.table c.fire_all.ensures.framed
           (c.fire_all.ensures.told ok before chip k.firings (fires chip.net k.marks k.firings) pl)
-          refl refl refl (λ k. ap (λ (s : ModuleState). s.firings) (c.unmark.ensures k)) refl refl (λ k. ap (λ (s : ModuleState). s.marked) (c.unmark.ensures k)),
+          refl refl refl c.unmark.ensures.firings refl refl (λ k lt. c.unmark.ensures.marked k lt),
     )
