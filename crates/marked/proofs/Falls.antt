@@ -4,7 +4,7 @@ use Rattle.std.proofs.lemmas.Int.{ints}
 use Rattle.std.proofs.lemmas.Bool.{cases_eq, false≢true}
 use Rattle.marked.specs.declared.weighed.Weighed.{Weighed}
 use Rattle.marked.specs.declared.level.Level.{Level}
-use Rattle.marked.specs.Rounds.{places_of, place_of, value, depth, depth_at, Entry, Relaxed, Low, level, blank, Rounds, Lowered}
+use Rattle.marked.specs.Rounds.{places_of, place_of, value, via_at, depth, depth_at, Entry, Relaxed, Low, level, blank, Rounds, Lowered}
 use Rattle.marked.proofs.Depths.{by_depth}
 use Rattle.marked.proofs.Relaxing.{entry_down, from_in}
 
@@ -16,6 +16,11 @@ lowered_deeper w old v d (Some p) e s = e.2
 deeper_lowered : (w : Weighed) (old : Level) (v d : ℕ) (via : Option ℕ) → Entry w old v d via → depth_at old v < d → is_some via ≡ true
 deeper_lowered w old v d None e h = absurd (omega arith)
 deeper_lowered w old v d (Some p) e h = refl
+
+-- no place lowers what is none of the graph's modules
+entry_beyond : (w : Weighed) (old : Level) (v d : ℕ) (via : Option ℕ) → w.graph.modules ≤ v → Entry w old v d via → via ≡ None
+entry_beyond w old v d None hm e = refl
+entry_beyond w old v d (Some p) hm e = absurd (omega (arith, w.graph.ends p e.0, e.1))
 
 module _ (w : Weighed) (ls : List Level) (k : ℕ) (rs : Rounds w ls k) where
   -- a value at a level is no higher than at an earlier one
@@ -41,6 +46,11 @@ module _ (w : Weighed) (ls : List Level) (k : ℕ) (rs : Rounds w ls k) where
   pub lows : (j : ℕ) → j ≤ k → (v : ℕ) → v < 64 → depth_at (level ls j) v ≤ w.target.a * j
   lows zero h v hv = omega (arith, ap depth (rs.flat v hv))
   lows (suc j) h v hv = entry_lows j v _ _ (level ls j) hv (lows j (omega arith)) ((rs.rounds j (suc j) refl h).entries v hv)
+
+  -- a round lowers none but the graph's modules
+  pub none_beyond : ((v : ℕ) → v < 64 → via_at (level ls 0) v ≡ None) → (j : ℕ) → j ≤ k → (v : ℕ) → w.graph.modules ≤ v → v < 64 → via_at (level ls j) v ≡ None
+  none_beyond start zero h v hm hv = start v hv
+  none_beyond start (suc j) h v hm hv = entry_beyond w (level ls j) v _ _ hm ((rs.rounds j (suc j) refl h).entries v hv)
 
   -- no value is above 0
   pub under : (j : ℕ) → j ≤ k → (v : ℕ) → v < 64 → value (level ls j) v ≤ℤ pos 0

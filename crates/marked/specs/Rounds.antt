@@ -18,9 +18,13 @@ places_of w = w.graph.places.now
 abbrev pub place_of : Weighed → ℕ → Place
 place_of w p = at (places_of w) p
 
+-- how level 0 reaches each module
+abbrev pub at_start : Arrival
+at_start = record { value = pos 0; via = None }
+
 -- how a level reaches module v
 abbrev pub arrival : Level → ℕ → Arrival
-arrival l v = slice_index_or l.arrivals v (record { value = pos 0; via = None })
+arrival l v = slice_index_or l.arrivals v at_start
 
 -- the value of module v at a level
 abbrev pub value : Level → ℕ → ℤ

@@ -2,7 +2,7 @@
 // along one more place, or what it was. So level k has the least weight of the walks of at most k
 // places to each module, and once a round lowers nothing, no longer walk weighs less either.
 ghost use Rattle.std.specs.Prelude.{◌≡◌, ℕ, ◌<◌, ◌≤◌, ◌≢◌, ◌<ℤ◌, ◌≤ℤ◌, length, pos, None as Nothing, MatchOption, slice_index_or};
-ghost use Rattle.marked.specs.Rounds.{Low, Lowered, Relaxed, arrival, places_of, value, via_at};
+ghost use Rattle.marked.specs.Rounds.{Low, Lowered, Relaxed, arrival, at_start, places_of, value, via_at};
 
 use crate::place::MODULES;
 use crate::weighed::Weighed;
@@ -21,6 +21,19 @@ pub(crate) struct Level {
     pub(crate) arrivals: [Arrival; MODULES],
 }
 
+// None of the first so many modules counts as lowered any more; the values stay. To go over all 64 took nearly a third of the rating of
+// eight modules. The arrivals are lent: of a loop over a part of an array of its own function's a proof knows nothing here.
+fn unlower(arrivals: &mut [Arrival], modules: usize)
+    requires { modules ≤ length arrivals.old }
+    ensures values { (v : ℕ) → (slice_index_or arrivals.new v at_start).value ≡ (slice_index_or arrivals.old v at_start).value }
+    ensures cleared { (v : ℕ) → v < modules → (slice_index_or arrivals.new v at_start).via ≡ Nothing }
+    ensures kept { (v : ℕ) → modules ≤ v → (slice_index_or arrivals.new v at_start).via ≡ (slice_index_or arrivals.old v at_start).via }
+{
+    for arrival in arrivals[..modules].iter_mut() {
+        arrival.via = None;
+    }
+}
+
 impl Level {
     // Level 0: the walk of no place leads to each module, and weighs 0.
     pub(crate) const START: Level = Level {
@@ -30,18 +43,14 @@ impl Level {
         }; MODULES],
     };
 
-    // The values of this level, none of which is lowered yet.
-    fn unlowered(&self) -> Level
+    // The values of this level, with no module lowered yet. A round lowers none but the graph's modules, the first so many.
+    fn unlowered(&self, modules: usize) -> Level
+        requires few { modules ≤ 64 }
+        requires beyond { (v : ℕ) → modules ≤ v → v < 64 → via_at self.now v ≡ Nothing }
         ensures { (v : ℕ) → v < 64 → (value result v ≡ value self.now v) × (via_at result v ≡ Nothing) }
     {
         let mut arrivals = self.arrivals;
-        for arrival in &mut arrivals {
-            // The whole of it: a part in each of so many is far slower to write.
-            *arrival = Arrival {
-                value: arrival.value,
-                via: None,
-            };
-        }
+        unlower(&mut arrivals, modules);
         Level { arrivals }
     }
 
@@ -62,9 +71,10 @@ impl Level {
     // that of a longer walk.
     pub(crate) fn next(&self, weighed: Weighed) -> Level
         requires low { Low self.now }
+        requires beyond { (v : ℕ) → weighed.graph.modules ≤ v → v < 64 → via_at self.now v ≡ Nothing }
         ensures { Relaxed weighed.entry (length (places_of weighed.entry)) self.now result }
     {
-        let mut new = self.unlowered();
+        let mut new = self.unlowered(weighed.graph.modules);
         for (i, place) in weighed.graph.places.iter().enumerate() {
             let value = self.arrivals[place.from].value + weighed.weight(*place);
             new.offer(

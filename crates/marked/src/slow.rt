@@ -1,9 +1,9 @@
 // How a slow cycle is found. Rounds of relaxation go on until one lowers no module: then no cycle
 // weighs less than 0, since one that did would offer its own start less than it has. Or they go on until
 // a way back closes a cycle, which is a slow one. As many rounds as there are modules always decide it.
-ghost use Rattle.std.specs.Prelude.{◌≡◌, ℕ, ◌<◌, ◌≤◌, length, pos};
+ghost use Rattle.std.specs.Prelude.{◌≡◌, ℕ, ◌<◌, ◌≤◌, length};
 ghost use Rattle.marked.specs.Answers.{Searched};
-ghost use Rattle.marked.specs.Rounds.{level, places_of, value};
+ghost use Rattle.marked.specs.Rounds.{arrival, at_start, level, places_of};
 
 use crate::graph::Graph;
 use crate::level::Level;
@@ -20,7 +20,7 @@ fn search(
     cycle: &mut [u16],
 ) -> Option<usize>
     requires long { weighed.graph.modules < length levels.old }
-    requires flat { (v : ℕ) → v < 64 → value (level levels.old 0) v ≡ pos 0 }
+    requires flat { (v : ℕ) → v < 64 → arrival (level levels.old 0) v ≡ at_start }
     requires room { (weighed.graph.modules ≤ length potentials.old) × (weighed.graph.modules ≤ length cycle.old) }
     ensures { Searched weighed.entry.graph.modules weighed.entry.target.a weighed.entry.target.b (places_of weighed.entry) potentials.old potentials.new cycle.old cycle.new result }
 {
@@ -44,6 +44,22 @@ fn search(
     unreachable()
 }
 
+// Searches with so many levels. Small netlists get fewer: to fill 65 in each search took about half of the rating of three modules.
+fn search_in<const COUNT: usize>(
+    weighed: Weighed,
+    potentials: &mut [i32],
+    cycle: &mut [u16],
+) -> Option<usize>
+    requires long { weighed.graph.modules < COUNT }
+    requires few { COUNT ≤ 65 }
+    requires room { (weighed.graph.modules ≤ length potentials.old) × (weighed.graph.modules ≤ length cycle.old) }
+    ensures { Searched weighed.entry.graph.modules weighed.entry.target.a weighed.entry.target.b (places_of weighed.entry) potentials.old potentials.new cycle.old cycle.new result }
+{
+    // An array: a rating may not fail for memory.
+    let mut levels = [Level::START; COUNT];
+    search(weighed, &mut levels, potentials, cycle)
+}
+
 /// Looks for a slow cycle: one whose mean is below the target. `None`: there is none, and
 /// `potentials` has the potential of each module at the target. `Some(length)`: the first `length` entries
 /// of `cycle` are one; it passes no module twice, and starts at the lowest that it passes. What is not
@@ -57,7 +73,10 @@ pub fn slow_cycle(
     requires room { (graph.modules ≤ length potentials.old) × (graph.modules ≤ length cycle.old) }
     ensures { Searched graph.entry.modules target.a target.b graph.entry.places.now potentials.old potentials.new cycle.old cycle.new result }
 {
-    // An array of the most levels: a rating may not fail for memory.
-    let mut levels = [Level::START; LEVELS];
-    search(Weighed { graph, target }, &mut levels, potentials, cycle)
+    let weighed = Weighed { graph, target };
+    match graph.modules {
+        0..16 => search_in::<16>(weighed, potentials, cycle),
+        16..32 => search_in::<32>(weighed, potentials, cycle),
+        _ => search_in::<LEVELS>(weighed, potentials, cycle),
+    }
 }

@@ -19,11 +19,7 @@ pub struct Channels {
 pub fn ready(queues: &[Queue], v: u8) -> bool
     ensures { Decides result (ReadyIn queues.now v (length queues.now)) }
 {
-    queues.iter().all(|c| {
-        let starved = c.sink == v && c.fill == 0;
-        let blocked = c.source == v && c.fill > c.size;
-        !starved && !blocked
-    })
+    queues.iter().all(|c| (c.sink != v || c.fill > 0) && (c.source != v || c.fill <= c.size))
 }
 
 impl Channels {

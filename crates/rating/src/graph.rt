@@ -15,7 +15,8 @@ pub(crate) const NO_PLACES: [Place; PLACES] = [Place {
     tokens: 0,
 }; PLACES];
 
-// The extended graph, its places in a list of the caller's: to hand out an `ExtendedGraph` takes a third of what it takes to rate a small one.
+// The extended graph, its places in a list of the caller's. An `ExtendedGraph` has nine kilobytes, which are copied where it is handed out:
+// that took two thirds of the time of all else in the rating of three modules.
 pub(crate) fn extended_in<'p>(chip: SizedNetlist, places: &'p mut [Place; PLACES]) -> Graph<'p>
     ensures modules { result.modules ≡ modules chip.entry.netlist.now }
     ensures places { result.places.now ≡ graph_of chip.entry.netlist.now chip.entry.sizing.now }

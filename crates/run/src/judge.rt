@@ -15,16 +15,13 @@ pub(crate) fn unmark(states: &mut [ModuleState], modules: usize)
 }
 
 impl Inner {
-    // The modules that a step fires, at the places of `states`: an array as long, since a step may not fail for memory.
-    pub(crate) fn judge(&self) -> [bool; 64]
-        ensures { Judged self.now result self.now.modules }
+    // The modules that a step fires, at the places of `states`. The array is the caller's, since one that is handed out is copied. Of the
+    // places only the netlist's modules: up to half of a small netlist's step went to the others.
+    pub(crate) fn judge(&self, firing: &mut [bool; 64])
+        ensures { Judged self.now firing.new self.now.modules }
     {
-        let mut firing = [false; 64];
-        // The modules alone, since a step of a small netlist takes little else; and by place, since of what is written through a part of an
-        // array a proof knows nothing here.
-        for (i, state) in self.states[..self.modules as usize].iter().enumerate() {
-            firing[i] = !state.marked && self.channels.ready(i as u8 + 1);
+        for (i, fires) in firing[..self.modules as usize].iter_mut().enumerate() {
+            *fires = !self.states[i].marked && self.channels.ready(i as u8 + 1);
         }
-        firing
     }
 }

@@ -111,7 +111,8 @@ impl<C: CoreSet> Run<C> {
         if self.inner.steps >= STEPS {
             return Err(Cause::BeyondLimit.into());
         }
-        let firing = self.inner.judge();
+        let mut firing = [false; 64];
+        self.inner.judge(&mut firing);
         self.fire_all(&firing, table);
         unmark(&mut self.inner.states, self.inner.modules as usize);
         self.inner.steps += 1;

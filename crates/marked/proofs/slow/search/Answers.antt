@@ -1,11 +1,11 @@
-use Rattle.std.proofs.Common.{◌+◌, get_or, pos, sym, ap, ◌∙◌, subst, arith, length-set, get_or-set_same}
-use Rattle.marked.specs.Rounds.{Lowered, blank}
-use Rattle.marked.proofs.Falls.{low, rounds_more}
+use Rattle.std.proofs.Common.{◌≢◌, ◌+◌, get_or, pos, sym, ap, ◌∙◌, subst, arith, length-set, get_or-set_other, get_or-set_same}
+use Rattle.marked.specs.Rounds.{Lowered, blank, via_at}
+use Rattle.marked.proofs.Falls.{low, none_beyond, rounds_more}
 use Rattle.marked.proofs.Settling.{settled}
 use Rattle.marked.proofs.slow.search.Goals as goal
 
 pub next-next-requires : goal.next-next-requires
-next-next-requires c = record { low = low _ _ _ c.loop-k.invariant.0 c.loop-k.k (omega arith) (omega (arith, c.args.weighed.graph.some)) }
+next-next-requires c = record { low = low _ _ _ c.loop-k.invariant.0 c.loop-k.k (omega arith) (omega (arith, c.args.weighed.graph.some)); beyond = none_beyond _ _ _ c.loop-k.invariant.0 c.loop-k.invariant.4 c.loop-k.k (omega arith) }
 
 pub returns-in_default : goal.returns-in_default
 returns-in_default c = (
@@ -31,4 +31,7 @@ loop-k-preserved-then-k-ne3 c = (
   omega arith,
   c.loop-k.invariant.2,
   c.loop-k.invariant.3,
+  λ v h.
+      let other : 0 ≢ c.loop-k.k + 1 = omega arith in
+      ap (λ l. via_at l v) (get_or-set_other c.loop-k.levels (c.loop-k.k + 1) 0 c.next-next.result blank other) ∙ c.loop-k.invariant.4 v h,
 )

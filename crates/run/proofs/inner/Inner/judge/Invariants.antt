@@ -3,4 +3,4 @@ use Rattle.run.specs.Told.{Judged}
 use Rattle.run.proofs.inner.Inner.judge.Given as goal
 
 abbrev pub invariant-loop-i : goal.invariant-loop-i
-invariant-loop-i l = (length l.firing ≡ 64) × Judged l.self l.firing l.i
+invariant-loop-i l = (length l.fires-items ≡ l.self.modules) × Judged l.self l.fires-items l.i

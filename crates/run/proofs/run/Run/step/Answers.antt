@@ -12,7 +12,7 @@ returns-clause-told g c =
     let s₁ = c.fire_all.new.self in
     let small : s₀.inner.steps < 2 ^ 32 = search rules in
     λ ok chip k before td.
-    let pl = planned ok before chip k s₀.inner (m.rules s₀.cores) (m.held s₀.cores) t₀ td c.in_ok-after_prime.ensures c.judge-firing.result c.judge-firing.ensures (omega (arith, small, c.if-self-ge-STEPS.false)) in (
+    let pl = planned ok before chip k s₀.inner (m.rules s₀.cores) (m.held s₀.cores) t₀ td c.in_ok-after_prime.ensures c.judge.new.firing c.judge.ensures (omega (arith, small, c.if-self-ge-STEPS.false)) in (
       step_ok ok before chip k s₀.inner (m.rules s₀.cores) (m.held s₀.cores) t₀ td (length t₀) c.in_ok-after_prime.ensures c.in_ok-room.ensures c.if-self-ge-STEPS.false,
       told_step ok before chip k s₀.inner (m.rules s₀.cores) (m.held s₀.cores) t₀ td c.in_ok-after_prime.ensures (length t₀) s₁.inner _ (m.rules s₁.cores) (m.held s₁.cores) c.fire_all.new.table c.fire_all.ensures.framed
           (c.fire_all.ensures.told ok before chip k.firings (fires chip.net k.marks k.firings) pl)
